@@ -1,0 +1,60 @@
+-- What the answers of tests say: one test, two joined, and tests over the numbers below a bound. Assumes nothing.
+use Prim.Native.Nat.{ℕ, zero, suc, _≤_, _<_}
+use native.Mathlib.Omega.{arith}
+use native.Mathlib.Nat.{eq-or-lt-of-le, le-of-suc-le-suc, not-suc-le-zero}
+use mathlib.Core.Path.{_≡_, refl, sym, _∙_}
+use mathlib.Core.Logic.{_⊎_, inl, inr, ⊎-elim}
+use mathlib.Core.Bool.{Bool, true, false, _&&_, _||_, true≢false}
+use Rattle.laws.specs.Tests.{any, all}
+
+pub which : (b : Bool) → (b ≡ true) ⊎ (b ≡ false)
+which true = inl refl
+which false = inr refl
+
+pub clash : {b : Bool} → b ≡ true → b ≡ false → ⊥
+clash p q = true≢false (sym p ∙ q)
+
+pub and-split : (a b : Bool) → (a && b) ≡ true → (a ≡ true) × (b ≡ true)
+and-split true b h = (refl, h)
+and-split false b h = absurd (true≢false (sym h))
+
+pub and-join : {a b : Bool} → a ≡ true → b ≡ true → (a && b) ≡ true
+and-join {b} p q = rw p q
+
+pub or-case : (a b : Bool) → (a || b) ≡ true → (a ≡ true) ⊎ (b ≡ true)
+or-case true b h = inl refl
+or-case false b h = inr h
+
+pub or-left : {a : Bool} (b : Bool) → a ≡ true → (a || b) ≡ true
+or-left b p = rw p
+
+pub or-right : (a : Bool) {b : Bool} → b ≡ true → (a || b) ≡ true
+or-right true q = refl
+or-right false q = q
+
+pub below-suc : {u k : ℕ} → u < suc k → (u ≡ k) ⊎ (u < k)
+below-suc h = eq-or-lt-of-le (le-of-suc-le-suc h)
+
+pub any-some : (k : ℕ) (p : ℕ → Bool) → any k p ≡ true → (u : ℕ) × (u < k) × (p u ≡ true)
+unfolding any
+any-some zero p h = absurd (true≢false (sym h))
+any-some (suc k) p h =
+    ⊎-elim (λ e. (k, omega arith, e)) (λ e. let r = any-some k p e in (r .0, omega (arith, r .1), r .2)) (or-case (p k) (any k p) h)
+
+pub any-of : (k : ℕ) (p : ℕ → Bool) (u : ℕ) → u < k → p u ≡ true → any k p ≡ true
+unfolding any
+any-of zero p u l e = absurd (not-suc-le-zero l)
+any-of (suc k) p u l e =
+    ⊎-elim (λ q. or-left (any k p) (rw q at e)) (λ q. or-right (p k) (any-of k p u q e)) (below-suc l)
+
+pub all-each : (k : ℕ) (p : ℕ → Bool) → all k p ≡ true → (u : ℕ) → u < k → p u ≡ true
+unfolding all
+all-each zero p h u l = absurd (not-suc-le-zero l)
+all-each (suc k) p h u l =
+    let s = and-split (p k) (all k p) h in
+    ⊎-elim (λ q. rw q (s .0)) (λ q. all-each k p (s .1) u q) (below-suc l)
+
+pub all-of : (k : ℕ) (p : ℕ → Bool) → ((u : ℕ) → u < k → p u ≡ true) → all k p ≡ true
+unfolding all
+all-of zero p h = refl
+all-of (suc k) p h = and-join (h k (omega arith)) (all-of k p (λ u l. h u (omega arith)))
