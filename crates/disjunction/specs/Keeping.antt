@@ -1,0 +1,62 @@
+-- The stream with its store seen as a list of sets: what a trial leaves in it, and what handing out does (document 01, 'The stream's own rule').
+-- Keys, links, budgets and refusals are left to the stream's own definitions. Everything here computes. Assumes nothing.
+use Prim.Native.Nat.{ℕ, zero, suc, _+_, _-_}
+use native.Mathlib.Decide.{ℕ-discrete}
+use mathlib.Core.Path.{_≡_, refl, ap₂}
+use mathlib.Core.Logic.{⊎-elim}
+use mathlib.Core.List.{List, [], _∷_, _++_, List·Memᴰ, List·Memᴰ·head, List·Memᴰ·tail, List·Memᴰ·cases-cons, List·Memᴰ·not-nil, nil≢cons, cons≢nil, head-eq-of-cons-eq, tail-eq-of-cons-eq}
+use lib.ListN.{length, getD}
+use Rattle.disjunction.specs.Sets.{Tables}
+use Rattle.disjunction.specs.Rule.{Place, rows, rowAt, Grown, trial}
+
+-- Whether two sets are equal. (The library's own decision of it cannot be unfolded.)
+unfoldable pub sameDec : {x y : ℕ} {xs ys : List ℕ} → Dec (x ≡ y) → Dec (xs ≡ ys) → Dec (_≡_ {A = List ℕ} (x ∷ xs) (y ∷ ys))
+sameDec (yes e) (yes f) = yes (ap₂ (λ (z : ℕ) (zs : List ℕ). z ∷ zs) e f)
+sameDec (yes e) (no g) = no (λ h. g (tail-eq-of-cons-eq h))
+sameDec (no g) d = no (λ h. g (head-eq-of-cons-eq h))
+
+unfoldable pub sets-discrete : Discrete (List ℕ)
+unfolding sameDec
+sets-discrete [] [] = yes refl
+sets-discrete [] (y ∷ ys) = no nil≢cons
+sets-discrete (x ∷ xs) [] = no cons≢nil
+sets-discrete (x ∷ xs) (y ∷ ys) = sameDec (ℕ-discrete x y) (sets-discrete xs ys)
+
+module _ {A : Type 0} where
+  -- Whether a list has x.
+  unfoldable pub decMemᴰ : Discrete A → (x : A) (l : List A) → Dec (List·Memᴰ x l)
+  decMemᴰ eq x [] = no List·Memᴰ·not-nil
+  decMemᴰ eq x (y ∷ l) = go (eq x y) (decMemᴰ eq x l)
+    where
+      go : Dec (x ≡ y) → Dec (List·Memᴰ x l) → Dec (List·Memᴰ x (y ∷ l))
+      go (yes e) b = yes (List·Memᴰ·head e)
+      go (no d) (yes m) = yes (List·Memᴰ·tail m)
+      go (no d) (no h) = no (λ k. ⊎-elim d h (List·Memᴰ·cases-cons k))
+
+  -- The list with x at its end, unless it has x.
+  unfoldable pub stored : {l : List A} {x : A} → Dec (List·Memᴰ x l) → List A
+  stored {l} {x} (yes m) = l
+  stored {l} {x} (no h) = l ++ (x ∷ [])
+
+-- "Search. If absent, the key becomes the next record."
+unfoldable pub keep : List (List ℕ) → List ℕ → List (List ℕ)
+keep l T = stored {l = l} {x = T} (decMemᴰ sets-discrete T l)
+
+-- "Found, taken, next row": found is the number of sets.
+pub record State : Type 0 where
+  pub sets : List (List ℕ)
+  pub taken : ℕ
+  pub next : ℕ
+
+-- "Hand out record `taken`, raise taken, set next row to 0."
+unfoldable pub take : State → State
+take q = record { sets = q .sets; taken = q .taken + 1; next = 0 }
+
+module _ (W : Tables) where
+  -- "The trial of the row at place next row on the set in record taken - 1."
+  abbrev pub tried : State → Grown
+  tried q = trial W (getD (q .sets) (q .taken - 1) []) (rowAt W (q .next))
+
+  -- "Do the trial, and raise next row."
+  unfoldable pub try : State → State
+  try q = record { sets = keep (q .sets) (tried q .rows); taken = q .taken; next = q .next + 1 }
