@@ -11,7 +11,7 @@ use lib.ListN.{length}
 use lib.Seq.{getD-set-same}
 use Rattle.laws.proofs.TestLaws.{clash}
 use Rattle.disjunction.specs.Sets.{Tables, Symmetric, at, Member, size, Within, Row, Valid, Consistent, JCC, Maximal}
-use Rattle.disjunction.specs.Rule.{Place, addRow, rows, Agrees, rowTest, Addable, walk, Grown, after, grow, extension, alone}
+use Rattle.disjunction.specs.Rule.{Place, rowIn, addRow, rows, Agrees, rowTest, Addable, walk, Grown, after, grow, extension, alone}
 use Rattle.disjunction.proofs.RowSets.{sets-equal, size-pos, within-member, add-cases, add-within, member-table, member-row, valid-add, alone-long, alone-at, alone-here, alone-only}
 use Rattle.disjunction.proofs.RowTests.{not-yes, rowTest-iff, rowTest-absent}
 use Rattle.disjunction.proofs.RowOrder.{in-rows, rows-all}
@@ -25,13 +25,10 @@ module _ (W : Tables) where
 
   -- ---- a JCC set on which no row test says yes is maximal
 
-  abbrev pub outerRow : (T U : List ℕ) → Crossing W T U → Place
-  outerRow T U x = record { table = x .outer; row = at U (x .outer) }
-
   -- The row with which U leaves T can be added to T.
-  pub crossing-yes : (T U : List ℕ) → length T ≡ W .n → Consistent W U → Within T U → (x : Crossing W T U) → rowTest W T (outerRow T U x) ≡ true
+  pub crossing-yes : (T U : List ℕ) → length T ≡ W .n → Consistent W U → Within T U → (x : Crossing W T U) → rowTest W T (rowIn U (x .outer)) ≡ true
   crossing-yes T U l c i x =
-      rowTest-iff W T (outerRow T U x) l .1
+      rowTest-iff W T (rowIn U (x .outer)) l .1
       (record {
         absent = x .outside;
         near = (x .inner, x .inside, x .touch);
@@ -46,20 +43,26 @@ module _ (W : Tables) where
       go U k i t z (inr m) =
           let (s, in-T) = j .some in
           let x = cross W T U (k .connected s t (within-member T U i s in-T) m) in-T z in
-          absurd (clash (crossing-yes T U (j .valid .long) (k .consistent) i x) (c (outerRow T U x) (member-row W U (k .valid) (x .outer) (x .other))))
+          absurd (clash (crossing-yes T U (j .valid .long) (k .consistent) i x) (c (rowIn U (x .outer)) (member-row W U (k .valid) (x .outer) (x .other))))
 
   -- ---- a row that can be added keeps the set JCC
 
-  pub consistent-add : Symmetric W → (T : List ℕ) (p : Place) → p .table < length T → Consistent W T → Agrees W T p → Consistent W (addRow T p)
-  consistent-add S T p l c a t u d m m′ = go (add-cases T p t l) (add-cases T p u l)
+  -- Table u's row in E is s, or a row of T that is consistent with s.
+  abbrev pub Taken : List ℕ → Place → List ℕ → ℕ → Type 0
+  Taken T s E u = ((u ≡ s .table) × (at E u ≡ s .row)) ⊎ ((at E u ≡ at T u) × (W .fits u (at T u) (s .table) (s .row) ≡ true))
+
+  pub taken-consistent : Symmetric W → (T : List ℕ) (s : Place) (E : List ℕ) → Consistent W T → ((u : ℕ) → Member E u → Taken T s E u) → Consistent W E
+  taken-consistent S T s E c from t u d m m′ = go (from t m) (from u m′)
     where
-      go : ((t ≡ p .table) × (at (addRow T p) t ≡ p .row)) ⊎ ((t ≢ p .table) × (at (addRow T p) t ≡ at T t))
-          → ((u ≡ p .table) × (at (addRow T p) u ≡ p .row)) ⊎ ((u ≢ p .table) × (at (addRow T p) u ≡ at T u))
-          → W .fits t (at (addRow T p) t) u (at (addRow T p) u) ≡ true
+      go : Taken T s E t → Taken T s E u → W .fits t (at E t) u (at E u) ≡ true
       go (inl x) (inl y) = absurd (d (x .0 ∙ sym (y .0)))
-      go (inl x) (inr y) = rw (x .1, y .1, x .0) (S .fit (p .table) (p .row) u (at T u) ∙ a u (rw (y .1) at m′))
-      go (inr x) (inl y) = rw (x .1, y .1, y .0) (a t (rw (x .1) at m))
-      go (inr x) (inr y) = rw (x .1, y .1) (c t u d (rw (x .1) at m) (rw (y .1) at m′))
+      go (inl x) (inr y) = rw (x .1, y .0, x .0) (S .fit (s .table) (s .row) u (at T u) ∙ y .1)
+      go (inr x) (inl y) = rw (x .0, y .1, y .0) (x .1)
+      go (inr x) (inr y) = rw (x .0, y .0) (c t u d (rw (x .0) at m) (rw (y .0) at m′))
+
+  pub consistent-add : Symmetric W → (T : List ℕ) (p : Place) → p .table < length T → Consistent W T → Agrees W T p → Consistent W (addRow T p)
+  consistent-add S T p l c a =
+      taken-consistent S T p (addRow T p) c (λ u m. ⊎-elim (λ x. inl x) (λ x. inr (x .1, a u (rw (x .1) at m))) (add-cases T p u l))
 
   pub jcc-add : Symmetric W → (T : List ℕ) (p : Place) → JCC W T → Row W (p .table) (p .row) → rowTest W T p ≡ true → JCC W (addRow T p)
   jcc-add S T p j r h =

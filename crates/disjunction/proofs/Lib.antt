@@ -4,3 +4,6 @@ pub mod RowOrder
 pub mod Ways
 pub mod Growing
 pub mod Extending
+pub mod Pieces
+pub mod Starting
+pub mod Completeness

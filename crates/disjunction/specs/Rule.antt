@@ -15,6 +15,10 @@ pub record Place : Type 0 where
   pub table : ℕ
   pub row : ℕ
 
+-- T's row in table u.
+abbrev pub rowIn : List ℕ → ℕ → Place
+rowIn T u = record { table = u; row = at T u }
+
 -- T with the row p added.
 abbrev pub addRow : List ℕ → Place → List ℕ
 addRow T p = set T (p .table) (p .row)
@@ -135,7 +139,7 @@ module _ (W : Tables) where
   -- The rows of D in tables below k.
   unfoldable pub membersBelow : List ℕ → ℕ → List Place
   membersBelow D zero = []
-  membersBelow D (suc t) = membersBelow D t ++ cond (member D t) (record { table = t; row = at D t } ∷ []) []
+  membersBelow D (suc t) = membersBelow D t ++ cond (member D t) (rowIn D t ∷ []) []
 
   -- "The piece that holds s": from s alone, rows of D that touch what is there are added until there is none.
   unfoldable pub piece : List ℕ → Place → List ℕ
