@@ -7,3 +7,5 @@ pub mod Extending
 pub mod Pieces
 pub mod Starting
 pub mod Completeness
+pub mod CellLaws
+pub mod KeepingLaws

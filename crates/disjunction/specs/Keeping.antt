@@ -54,9 +54,9 @@ take q = record { sets = q .sets; taken = q .taken + 1; next = 0 }
 
 module _ (W : Tables) where
   -- "The trial of the row at place next row on the set in record taken - 1."
-  abbrev pub tried : State → Grown
-  tried q = trial W (getD (q .sets) (q .taken - 1) []) (rowAt W (q .next))
+  abbrev pub trialNow : State → Grown
+  trialNow q = trial W (getD (q .sets) (q .taken - 1) []) (rowAt W (q .next))
 
   -- "Do the trial, and raise next row."
   unfoldable pub try : State → State
-  try q = record { sets = keep (q .sets) (tried q .rows); taken = q .taken; next = q .next + 1 }
+  try q = record { sets = keep (q .sets) (trialNow q .rows); taken = q .taken; next = q .next + 1 }
