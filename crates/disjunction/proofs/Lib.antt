@@ -9,3 +9,5 @@ pub mod Starting
 pub mod Completeness
 pub mod CellLaws
 pub mod KeepingLaws
+pub mod Draining
+pub mod Sample
