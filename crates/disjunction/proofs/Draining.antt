@@ -14,7 +14,7 @@ use Rattle.disjunction.specs.Sets.{Tables, Symmetric, Maximal}
 use Rattle.disjunction.specs.Rule.{rows, rowAt, extension, alone}
 use Rattle.disjunction.specs.Keeping.{State, take, trialNow, try}
 use Rattle.disjunction.proofs.RowOrder.{rowAt-row}
-use Rattle.disjunction.proofs.KeepingLaws.{keep-long, Going, going-open, going-take, going-try, finished}
+use Rattle.disjunction.proofs.KeepingLaws.{Going, going-open, going-take, going-try, finished}
 
 lt-of-ne : {a b : ℕ} → a ≤ b → (a ≡ b → ⊥) → a < b
 lt-of-ne h d = ⊎-elim (λ e. absurd (d e)) (λ l. l) (eq-or-lt-of-le h)
@@ -44,22 +44,26 @@ module _ (W : Tables) where
   drain zero q = record { state = q; trials = 0; tests = 0 }
   drain (suc k) q = drainBy (λ r. drain k r) q (eqb (q .next) (length (rows W))) (ltb (q .taken) (length (q .sets)))
 
+  -- The end, where all of l was found and tried.
+  abbrev pub ended : List (List ℕ) → ℕ → ℕ → Drained
+  ended l trials tests = record { state = record { sets = l; taken = length l; next = length (rows W) }; trials = trials; tests = tests }
+
   -- A trial is due only after a set was taken.
   abbrev Live : State → Type 0
-  Live q = Going W q × (q .next < length (rows W) → 0 < q .taken) × (0 < length (q .sets))
+  Live q = Going W q × (q .next < length (rows W) → 0 < q .taken)
 
   module _ (S : Symmetric W) where
     live-opened : 0 < length (rows W) → Live opened
     unfolding opened
-    live-opened h = (going-open W S (rowAt W 0) (rowAt-row W 0 h), λ l. absurd (omega arith), omega arith)
+    live-opened h = (going-open W S (rowAt W 0) (rowAt-row W 0 h), λ l. absurd (omega arith))
 
     live-take : (q : State) → Live q → q .taken < length (q .sets) → q .next ≡ length (rows W) → Live (take q)
     unfolding take
-    live-take q (g, d, s) l e = (going-take W q g l e, λ h. omega arith, s)
+    live-take q (g, d) l e = (going-take W q g l e, λ h. omega arith)
 
     live-try : (q : State) → Live q → q .next < length (rows W) → Live (try W q)
     unfolding try
-    live-try q (g, d, s) l = (going-try W S q g (d l) l, λ h. d l, omega (arith, keep-long (q .sets) (trialNow W q .rows)))
+    live-try q (g, d) l = (going-try W S q g (d l) l, λ h. d l)
 
     live-drain : (k : ℕ) (q : State) → Live q → Live (drain k q .state)
     unfolding drain drainBy
@@ -73,8 +77,8 @@ module _ (W : Tables) where
         go ih true false e f = h
 
     -- A stream that was drained to its end has found exactly the maximal sets.
-    pub drained-all : 0 < length (rows W) → (k : ℕ) (d : Drained) → drain k opened ≡ d
-        → d .state .taken ≡ length (d .state .sets) → d .state .next ≡ length (rows W) → (T : List ℕ) → Maximal W T ↔ List·Memᴰ T (d .state .sets)
-    drained-all h k d e a b =
-        let l : Live (d .state) = subst (λ (x : Drained). Live (x .state)) e (live-drain k opened (live-opened h)) in
-        finished W S (d .state) (l .0) (l .2) a b
+    pub drained-all : (k : ℕ) (l : List (List ℕ)) (trials tests : ℕ) → drain k opened ≡ ended l trials tests → 0 < length (rows W) → 0 < length l
+        → (T : List ℕ) → Maximal W T ↔ List·Memᴰ T l
+    drained-all k l trials tests e h p =
+        let d : Live (ended l trials tests .state) = subst (λ (x : Drained). Live (x .state)) e (live-drain k opened (live-opened h)) in
+        finished W S (ended l trials tests .state) (d .0) p refl refl

@@ -1,13 +1,14 @@
--- Whole examples, computed by the definitions: document 01's input of 25 bytes with its row tests, and document 000's Example 2.3. That the sets found
--- are all the maximal ones is `drained-all`. Assumes nothing.
+-- Whole examples, computed by the definitions: document 01's input of 25 bytes with its row tests, the four joins that go astray there, and document
+-- 000's Example 2.3. That the sets found are all the maximal ones is `drained-all`. Assumes nothing.
 use Prim.Native.Nat.{ℕ, zero, suc, _-_, _<_}
 use native.Mathlib.Omega.{arith}
 use native.Mathlib.Decide.{ℕ-discrete}
 use mathlib.Core.Path.{_≡_, refl}
 use mathlib.Core.Logic.{_↔_}
-use mathlib.Core.Bool.{Bool, true, false}
+use mathlib.Core.Bool.{Bool, true, false, cond, _||_}
 use mathlib.Core.List.{List, [], _∷_, List·Memᴰ}
 use lib.ListN.{length, getD}
+use lib.Dec.{eqb}
 use Rattle.laws.specs.Tests.{any, all}
 use Rattle.laws.specs.Lists.{tab}
 use Rattle.disjunction.specs.Sets.{Tables, Maximal}
@@ -15,71 +16,71 @@ use Rattle.disjunction.specs.Rule.{rowsTo, rowsBelow, rows, rowAt, membe
 use Rattle.disjunction.specs.Cells.{Cells, same, sharing, matching, tables, gives, codeBelow, padded}
 use Rattle.disjunction.specs.Keeping.{sameDec, sets-discrete, decMemᴰ, stored, keep, State, take, try}
 use Rattle.disjunction.proofs.CellLaws.{tables-symmetric}
-use Rattle.disjunction.proofs.Draining.{Drained, opened, drainBy, drain, drained-all}
+use Rattle.disjunction.proofs.Draining.{opened, drainBy, drain, ended, drained-all}
 
--- Tables by their schemes and rows; a row as its codes over all attributes, with 0 where its table has none.
-cellsOf : ℕ → List (List Bool) → List (List (List ℕ)) → Cells
+-- Whether a scheme, as a list of attributes, has attribute a; and the code of a in a row, which lists the codes by the scheme's attributes.
+holds : List ℕ → ℕ → Bool
+holds [] a = false
+holds (b ∷ s) a = eqb b a || holds s a
+
+codeAt : List ℕ → List ℕ → ℕ → ℕ
+codeAt [] r a = 0
+codeAt (b ∷ s) [] a = 0
+codeAt (b ∷ s) (x ∷ r) a = cond (eqb b a) x (codeAt s r a)
+
+-- Tables by their schemes and their rows.
+cellsOf : ℕ → List (List ℕ) → List (List (List ℕ)) → Cells
 cellsOf m schemes tables =
     record {
       m = m;
       n = length schemes;
       count = λ t. length (getD tables t []);
-      has = λ t a. getD (getD schemes t []) a false;
-      cell = λ t r a. getD (getD (getD tables t []) (r - 1) []) a 0;
+      has = λ t a. holds (getD schemes t []) a;
+      cell = λ t r a. codeAt (getD schemes t []) (getD (getD tables t []) (r - 1) []) a;
     }
 
--- ---- "Input, 25 bytes": schemes {0,1}, {1,2}, {0,2}
+-- ---- the tables
 
+-- "Input, 25 bytes."
 three : Cells
 three =
-    cellsOf 3
-    ((true ∷ true ∷ false ∷ []) ∷ (false ∷ true ∷ true ∷ []) ∷ (true ∷ false ∷ true ∷ []) ∷ [])
-    (((2 ∷ 11 ∷ 0 ∷ []) ∷ (3 ∷ 21 ∷ 0 ∷ []) ∷ [])
-    ∷ ((0 ∷ 11 ∷ 8 ∷ []) ∷ (0 ∷ 4294967307 ∷ 10 ∷ []) ∷ [])
-    ∷ ((2 ∷ 0 ∷ 8 ∷ []) ∷ (3 ∷ 0 ∷ 0 ∷ []) ∷ [])
+    cellsOf 3 ((0 ∷ 1 ∷ []) ∷ (1 ∷ 2 ∷ []) ∷ (0 ∷ 2 ∷ []) ∷ [])
+    (((2 ∷ 11 ∷ []) ∷ (3 ∷ 21 ∷ []) ∷ [])
+    ∷ ((11 ∷ 8 ∷ []) ∷ (4294967307 ∷ 10 ∷ []) ∷ [])
+    ∷ ((2 ∷ 8 ∷ []) ∷ (3 ∷ 0 ∷ []) ∷ [])
     ∷ [])
 
--- "tables 3 3 6 14": open's row tests.
-three-open : extension (tables three) (alone (tables three) (record { table = 0; row = 1 })) ≡ record { rows = 1 ∷ 1 ∷ 1 ∷ []; tests = 14 }
-unfolding extension grow walk rowTest near agrees absent member rowsBelow rowsTo alone sharing matching same any all three cellsOf
-three-open = refl
+-- "Rows without a shared attribute are put in one set with nothing between them. That is a product."
+apart : Cells
+apart = cellsOf 2 ((0 ∷ []) ∷ (1 ∷ []) ∷ []) (((2 ∷ []) ∷ []) ∷ ((2 ∷ []) ∷ []) ∷ [])
 
--- "set 1 1 1", "set 2 0 2", "set 0 2 0"; "end 3 18 160".
-abbrev threeSets : List (List ℕ)
-threeSets = (1 ∷ 1 ∷ 1 ∷ []) ∷ (2 ∷ 0 ∷ 2 ∷ []) ∷ (0 ∷ 2 ∷ 0 ∷ []) ∷ []
+-- "One pass extends the set, and a row that became connected later is missed": table 1's, by table 2's.
+later : Cells
+later = cellsOf 2 ((0 ∷ []) ∷ (1 ∷ []) ∷ (0 ∷ 1 ∷ []) ∷ []) (((2 ∷ []) ∷ []) ∷ ((2 ∷ []) ∷ []) ∷ ((2 ∷ 2 ∷ []) ∷ []) ∷ [])
 
-three-drained : drain (tables three) 30 (opened (tables three))
-    ≡ record { state = record { sets = threeSets; taken = 3; next = 6 }; trials = 18; tests = 160 }
-unfolding drain drainBy opened try take keep stored decMemᴰ sets-discrete sameDec ℕ-discrete trial start piece joins membersBelow dropped stays tab extension grow walk rowTest near agrees absent member rowsBelow rowsTo alone sharing matching same any all three cellsOf
-three-drained = refl
+-- "Two tables over attributes 0 and 1, each with the row (1, null), give two sets with one padded row."
+twins : Cells
+twins = cellsOf 2 ((0 ∷ 1 ∷ []) ∷ (0 ∷ 1 ∷ []) ∷ []) (((2 ∷ 0 ∷ []) ∷ []) ∷ ((2 ∷ 0 ∷ []) ∷ []) ∷ [])
 
-three-sets : (T : List ℕ) → Maximal (tables three) T ↔ List·Memᴰ T threeSets
-unfolding rowsBelow rowsTo three cellsOf
-three-sets =
-    drained-all (tables three) (tables-symmetric three) (omega arith) 30
-    (record { state = record { sets = threeSets; taken = 3; next = 6 }; trials = 18; tests = 160 }) three-drained refl refl
+-- "With schemes {0,1}, {0,2}, {1,2} the early null blocks a row that fits."
+early : Cells
+early = cellsOf 3 ((0 ∷ 1 ∷ []) ∷ (0 ∷ 2 ∷ []) ∷ (1 ∷ 2 ∷ []) ∷ []) (((2 ∷ 6 ∷ []) ∷ []) ∷ ((3 ∷ 8 ∷ []) ∷ []) ∷ ((6 ∷ 8 ∷ []) ∷ []) ∷ [])
 
--- "1 10 7", "2 20 -", "- 4294967306 9".
-three-padded : (padded three (1 ∷ 1 ∷ 1 ∷ []) ≡ 2 ∷ 11 ∷ 8 ∷ []) × (padded three (2 ∷ 0 ∷ 2 ∷ []) ≡ 3 ∷ 21 ∷ 0 ∷ [])
-    × (padded three (0 ∷ 2 ∷ 0 ∷ []) ≡ 0 ∷ 4294967307 ∷ 10 ∷ [])
-unfolding padded codeBelow gives member tab any three cellsOf
-three-padded = (refl, refl, refl)
-
--- ---- Example 2.3: R11 (A B C), R12 (A B D), R13 (A E F), R14 (A E G) of Figure 2
-
+-- Example 2.3: R11 (A B C), R12 (A B D), R13 (A E F), R14 (A E G) of Figure 2.
 four : Cells
 four =
-    cellsOf 7
-    ((true ∷ true ∷ true ∷ false ∷ false ∷ false ∷ false ∷ [])
-    ∷ (true ∷ true ∷ false ∷ true ∷ false ∷ false ∷ false ∷ [])
-    ∷ (true ∷ false ∷ false ∷ false ∷ true ∷ true ∷ false ∷ [])
-    ∷ (true ∷ false ∷ false ∷ false ∷ true ∷ false ∷ true ∷ [])
-    ∷ [])
+    cellsOf 7 ((0 ∷ 1 ∷ 2 ∷ []) ∷ (0 ∷ 1 ∷ 3 ∷ []) ∷ (0 ∷ 4 ∷ 5 ∷ []) ∷ (0 ∷ 4 ∷ 6 ∷ []) ∷ [])
     (((2 ∷ 11 ∷ 2 ∷ []) ∷ (3 ∷ 22 ∷ 3 ∷ []) ∷ (2 ∷ 0 ∷ 4 ∷ []) ∷ [])
-    ∷ ((2 ∷ 11 ∷ 0 ∷ 2 ∷ []) ∷ (3 ∷ 23 ∷ 0 ∷ 3 ∷ []) ∷ [])
-    ∷ ((2 ∷ 0 ∷ 0 ∷ 0 ∷ 12 ∷ 2 ∷ []) ∷ (3 ∷ 0 ∷ 0 ∷ 0 ∷ 21 ∷ 3 ∷ []) ∷ [])
-    ∷ ((2 ∷ 0 ∷ 0 ∷ 0 ∷ 13 ∷ 0 ∷ 2 ∷ []) ∷ (3 ∷ 0 ∷ 0 ∷ 0 ∷ 21 ∷ 0 ∷ 3 ∷ []) ∷ [])
+    ∷ ((2 ∷ 11 ∷ 2 ∷ []) ∷ (3 ∷ 23 ∷ 3 ∷ []) ∷ [])
+    ∷ ((2 ∷ 12 ∷ 2 ∷ []) ∷ (3 ∷ 21 ∷ 3 ∷ []) ∷ [])
+    ∷ ((2 ∷ 13 ∷ 2 ∷ []) ∷ (3 ∷ 21 ∷ 3 ∷ []) ∷ [])
     ∷ [])
+
+-- ---- their sets
+
+-- "set 1 1 1", "set 2 0 2", "set 0 2 0".
+abbrev threeSets : List (List ℕ)
+threeSets = (1 ∷ 1 ∷ 1 ∷ []) ∷ (2 ∷ 0 ∷ 2 ∷ []) ∷ (0 ∷ 2 ∷ 0 ∷ []) ∷ []
 
 -- "MaxJCC(R) comprises the following six tuple sets": t1 u1 v1, t2 v2 w2, t3 v1, u2 v2 w2, t1 u1 w1, t3 w1.
 abbrev fourSets : List (List ℕ)
@@ -92,17 +93,64 @@ fourSets =
     ∷ (3 ∷ 0 ∷ 0 ∷ 1 ∷ [])
     ∷ []
 
-four-drained : drain (tables four) 70 (opened (tables four)) ≡ record { state = record { sets = fourSets; taken = 6; next = 9 }; trials = 54; tests = 770 }
-unfolding drain drainBy opened try take keep stored decMemᴰ sets-discrete sameDec ℕ-discrete trial start piece joins membersBelow dropped stays tab extension grow walk rowTest near agrees absent member rowsBelow rowsTo alone sharing matching same any all four cellsOf
-four-drained = refl
+-- "tables 3 3 6 14": open's row tests.
+three-open : extension (tables three) (alone (tables three) (rowAt (tables three) 0)) ≡ record { rows = 1 ∷ 1 ∷ 1 ∷ []; tests = 14 }
+unfolding extension grow walk rowTest near agrees absent member rowsBelow rowsTo alone sharing matching same any all three cellsOf holds codeAt
+three-open = refl
 
-four-sets : (T : List ℕ) → Maximal (tables four) T ↔ List·Memᴰ T fourSets
-unfolding rowsBelow rowsTo four cellsOf
-four-sets =
-    drained-all (tables four) (tables-symmetric four) (omega arith) 70
-    (record { state = record { sets = fourSets; taken = 6; next = 9 }; trials = 54; tests = 770 }) four-drained refl refl
+-- A stream over C, drained in k steps, has found the sets of l in this order, with so many trials and row tests.
+abbrev Lists : Cells → ℕ → List (List ℕ) → ℕ → ℕ → Type 0
+Lists C k l trials tests = drain (tables C) k (opened (tables C)) ≡ ended (tables C) l trials tests
 
--- "Then, embed(T) is the tuple t = (A : 1, B : 10, C : 1, D : 1, E : 11, F : 1, G : null)."
+-- "end 3 18 160" is the first's.
+listed : Lists three 30 threeSets 18 160
+    × Lists apart 9 ((1 ∷ 0 ∷ []) ∷ (0 ∷ 1 ∷ []) ∷ []) 4 8
+    × Lists later 9 ((1 ∷ 1 ∷ 1 ∷ []) ∷ []) 3 9
+    × Lists twins 9 ((1 ∷ 0 ∷ []) ∷ (0 ∷ 1 ∷ []) ∷ []) 4 8
+    × Lists early 9 ((1 ∷ 0 ∷ 1 ∷ []) ∷ (0 ∷ 1 ∷ 1 ∷ []) ∷ []) 6 18
+    × Lists four 70 fourSets 54 770
+unfolding drain drainBy opened try take keep stored decMemᴰ sets-discrete sameDec ℕ-discrete trial start piece joins membersBelow dropped stays tab extension grow walk rowTest near agrees absent member rowsBelow rowsTo alone sharing matching same any all three apart later twins early four cellsOf holds codeAt
+listed = (refl, refl, refl, refl, refl, refl)
+
+-- They are all the maximal sets.
+module _ (T : List ℕ) where
+  three-sets : Maximal (tables three) T ↔ List·Memᴰ T threeSets
+  unfolding rowsBelow rowsTo three cellsOf
+  three-sets = drained-all (tables three) (tables-symmetric three) 30 threeSets 18 160 (listed .0) (omega arith) (omega arith) T
+
+  apart-sets : Maximal (tables apart) T ↔ List·Memᴰ T ((1 ∷ 0 ∷ []) ∷ (0 ∷ 1 ∷ []) ∷ [])
+  unfolding rowsBelow rowsTo apart cellsOf
+  apart-sets = drained-all (tables apart) (tables-symmetric apart) 9 ((1 ∷ 0 ∷ []) ∷ (0 ∷ 1 ∷ []) ∷ []) 4 8 (listed .1) (omega arith) (omega arith) T
+
+  later-sets : Maximal (tables later) T ↔ List·Memᴰ T ((1 ∷ 1 ∷ 1 ∷ []) ∷ [])
+  unfolding rowsBelow rowsTo later cellsOf
+  later-sets = drained-all (tables later) (tables-symmetric later) 9 ((1 ∷ 1 ∷ 1 ∷ []) ∷ []) 3 9 (listed .2) (omega arith) (omega arith) T
+
+  twins-sets : Maximal (tables twins) T ↔ List·Memᴰ T ((1 ∷ 0 ∷ []) ∷ (0 ∷ 1 ∷ []) ∷ [])
+  unfolding rowsBelow rowsTo twins cellsOf
+  twins-sets = drained-all (tables twins) (tables-symmetric twins) 9 ((1 ∷ 0 ∷ []) ∷ (0 ∷ 1 ∷ []) ∷ []) 4 8 (listed .3) (omega arith) (omega arith) T
+
+  early-sets : Maximal (tables early) T ↔ List·Memᴰ T ((1 ∷ 0 ∷ 1 ∷ []) ∷ (0 ∷ 1 ∷ 1 ∷ []) ∷ [])
+  unfolding rowsBelow rowsTo early cellsOf
+  early-sets = drained-all (tables early) (tables-symmetric early) 9 ((1 ∷ 0 ∷ 1 ∷ []) ∷ (0 ∷ 1 ∷ 1 ∷ []) ∷ []) 6 18 (listed .4) (omega arith) (omega arith) T
+
+  four-sets : Maximal (tables four) T ↔ List·Memᴰ T fourSets
+  unfolding rowsBelow rowsTo four cellsOf
+  four-sets = drained-all (tables four) (tables-symmetric four) 70 fourSets 54 770 (listed .5) (omega arith) (omega arith) T
+
+-- ---- their padded rows
+
+-- "1 10 7", "2 20 -", "- 4294967306 9".
+three-padded : (padded three (1 ∷ 1 ∷ 1 ∷ []) ≡ 2 ∷ 11 ∷ 8 ∷ []) × (padded three (2 ∷ 0 ∷ 2 ∷ []) ≡ 3 ∷ 21 ∷ 0 ∷ [])
+    × (padded three (0 ∷ 2 ∷ 0 ∷ []) ≡ 0 ∷ 4294967307 ∷ 10 ∷ [])
+unfolding padded codeBelow gives member tab any three cellsOf holds codeAt
+three-padded = (refl, refl, refl)
+
+twins-padded : padded twins (1 ∷ 0 ∷ []) ≡ padded twins (0 ∷ 1 ∷ [])
+unfolding padded codeBelow gives member tab any twins cellsOf holds codeAt
+twins-padded = refl
+
+-- "embed(T) is the tuple t = (A : 1, B : 10, C : 1, D : 1, E : 11, F : 1, G : null)."
 four-padded : padded four (1 ∷ 1 ∷ 1 ∷ 0 ∷ []) ≡ 2 ∷ 11 ∷ 2 ∷ 2 ∷ 12 ∷ 2 ∷ 0 ∷ []
-unfolding padded codeBelow gives member tab any four cellsOf
+unfolding padded codeBelow gives member tab any four cellsOf holds codeAt
 four-padded = refl
