@@ -1,14 +1,15 @@
--- What touching and being consistent say of cells, that neither has a direction, and that the padded row of a consistent set is its embedding. The
--- laws of `any` and `all` carry them. Assumes nothing.
+-- What touching and being consistent say of cells, that neither has a direction, and that the padded rows of the maximal sets are the full
+-- disjunction. The laws of `any` and `all` carry the first two, the lowest table that gives a code (`first-below`) the last. Assumes nothing.
 use Prim.Native.Nat.{ℕ, zero, suc, _<_}
 use native.Mathlib.Omega.{arith}
 use native.Mathlib.Nat.{not-suc-le-zero}
 use native.Mathlib.Decide.{ℕ-discrete}
-use mathlib.Core.Path.{_≡_, refl, sym, ap, fun-ext, _∙_}
+use mathlib.Core.Path.{_≡_, refl, sym, ap, _∙_}
 use mathlib.Core.Logic.{_⊎_, inl, inr, ⊎-elim, _↔_}
-use mathlib.Core.Bool.{Bool, true, false, not, cond, _&&_, _||_, and-comm}
+use mathlib.Core.Bool.{Bool, true, false, not, cond, _&&_, _||_}
 use mathlib.Core.List.{List}
-use lib.ListN.{length}
+use lib.ListN.{length, getD}
+use lib.Seq.{ext-getD}
 use lib.Dec.{ltb, eqb}
 use borrow.Author.Tests.{ltb-true, lt-ltb, eqb-true, eq-eqb, not-true}
 use Rattle.laws.specs.Tests.{any, all}
@@ -19,7 +20,7 @@ use Rattle.disjunction.specs.Sets.{Tables, Symmetric, at, Member, Consis
 use Rattle.disjunction.specs.Rule.{member}
 use Rattle.disjunction.specs.Cells.{Cells, same, sharing, Sharing, matching, Matching, tables, gives, codeBelow, padded, Embedding, FullDisjunction}
 use Rattle.disjunction.proofs.RowSets.{member-table}
-use Rattle.disjunction.proofs.RowTests.{iff-eq, member-iff}
+use Rattle.disjunction.proofs.RowTests.{not-yes, iff-eq, member-iff}
 
 pub same-iff : (x y : ℕ) → (same x y ≡ true) ↔ ((0 < x) × (x ≡ y))
 unfolding same
@@ -27,6 +28,28 @@ same-iff x y = (
   λ h. let z = and-split (ltb 0 x) (eqb x y) h in (ltb-true 0 x (z .0), eqb-true x y (z .1)),
   λ h. and-join (lt-ltb 0 x (h .0)) (eq-eqb x y (h .1)),
 )
+
+-- "Null matches nothing, not even null."
+pub same-null : (y : ℕ) → same 0 y ≡ false
+unfolding same
+same-null y = refl
+
+-- ---- the lowest number below a bound that passes a test
+
+abbrev pub FirstBelow : ℕ → (ℕ → Bool) → Type 0
+FirstBelow k p = ((t : ℕ) × (t < k) × (p t ≡ true) × ((u : ℕ) → u < t → p u ≡ false)) ⊎ ((u : ℕ) → u < k → p u ≡ false)
+
+pub first-below : (k : ℕ) (p : ℕ → Bool) → FirstBelow k p
+first-below zero p = inr (λ u l. absurd (not-suc-le-zero l))
+first-below (suc k) p = go (first-below k p) (which (p k))
+  where
+    go : FirstBelow k p → (p k ≡ true) ⊎ (p k ≡ false) → FirstBelow (suc k) p
+    go (inl (t, l, y, n)) b = inl (t, omega arith, y, n)
+    go (inr n) (inl y) = inl (k, omega arith, y, n)
+    go (inr n) (inr f) = inr (λ u l. ⊎-elim (λ e. rw e f) (λ q. n u q) (below-suc l))
+
+pub any-none : (k : ℕ) (p : ℕ → Bool) → ((u : ℕ) → u < k → p u ≡ false) → any k p ≡ false
+any-none k p n = not-yes (any k p) (λ e. let (u, l, y) = any-some k p e in clash y (n u l))
 
 module _ (C : Cells) where
   -- ---- touching
@@ -61,6 +84,10 @@ module _ (C : Cells) where
           let x = and-split (C .has t a) (C .has u a) e in
           or-right (not (C .has t a && C .has u a)) (same-iff (C .cell t r a) (C .cell u q a) .1 (h a l (x .0) (x .1)))
 
+  -- "Rows without a shared attribute are consistent."
+  pub matching-apart : (t r u q : ℕ) → sharing C t u ≡ false → matching C t r u q ≡ true
+  matching-apart t r u q f = matching-iff t r u q .1 (λ a l p s. absurd (clash (sharing-iff t u .1 (a, l, p, s)) f))
+
   matching-turn : (t r u q : ℕ) → matching C t r u q ≡ true → matching C u q t r ≡ true
   matching-turn t r u q h =
       matching-iff u q t r .1 (λ a l p s. let y = matching-iff t r u q .0 h a l s p in (omega (arith, y .0, y .1), sym (y .1)))
@@ -84,53 +111,66 @@ module _ (C : Cells) where
     λ h. and-join (member-iff T t .1 (h .0)) (h .1),
   )
 
-  -- A table below k gives the code, or none does and it is 0.
-  abbrev Coded : List ℕ → ℕ → ℕ → Type 0
-  Coded T a k =
-      ((t : ℕ) × Member T t × (C .has t a ≡ true) × (codeBelow C T a k ≡ C .cell t (at T t) a))
-      ⊎ (((t : ℕ) → t < k → gives C T a t ≡ true → ⊥) × (codeBelow C T a k ≡ 0))
-
-  coded : (T : List ℕ) (a k : ℕ) → Coded T a k
+  pub code-lowest : (T : List ℕ) (a k t : ℕ) → t < k → gives C T a t ≡ true → ((u : ℕ) → u < t → gives C T a u ≡ false)
+      → codeBelow C T a k ≡ C .cell t (at T t) a
   unfolding codeBelow
-  coded T a zero = inr (λ t l. absurd (not-suc-le-zero l), refl)
-  coded T a (suc k) = by (any k (gives C T a)) (gives C T a k) refl refl (coded T a k)
-    where
-      by : (x y : Bool) → any k (gives C T a) ≡ x → gives C T a k ≡ y → Coded T a k → Coded T a (suc k)
-      by true y e f (inl (t, m, h, c)) = inl (t, m, h, rw e c)
-      by true y e f (inr (n, c)) = let (t, l, g) = any-some k (gives C T a) e in absurd (n t l g)
-      by false true e f i = let g = gives-iff T a k .0 f in inl (k, g .0, g .1, rw (e, f) refl)
-      by false false e f i =
-          inr (
-            λ t l g. ⊎-elim (λ (j : t ≡ k). clash (rw j at g) f) (λ (j : t < k). clash (any-of k (gives C T a) t j g) e) (below-suc l),
-            rw (e, f) refl,
-          )
+  code-lowest T a zero t l y n = absurd (not-suc-le-zero l)
+  code-lowest T a (suc k) t l y n =
+      ⊎-elim
+      (λ (e : t ≡ k). rw (any-none k (gives C T a) (rw e at n), rw e at y, e))
+      (λ (b : t < k). rw (any-of k (gives C T a) t b y) (code-lowest T a k t b y n))
+      (below-suc l)
 
-  module _ (T : List ℕ) (long : length T ≡ C .n) (c : Consistent (tables C) T) where
-    -- Two members with attribute a have the same code there.
-    one-code : (t u a : ℕ) → a < C .m → Member T t → C .has t a ≡ true → Member T u → C .has u a ≡ true → C .cell u (at T u) a ≡ C .cell t (at T t) a
-    one-code t u a l m h n k = go (ℕ-discrete t u)
+  pub code-none : (T : List ℕ) (a k : ℕ) → ((u : ℕ) → u < k → gives C T a u ≡ false) → codeBelow C T a k ≡ 0
+  unfolding codeBelow
+  code-none T a zero n = refl
+  code-none T a (suc k) n = rw (any-none k (gives C T a) (λ u l. n u (omega arith)), n k (omega arith))
+
+  pub padded-long : (T : List ℕ) → length (padded C T) ≡ C .m
+  unfolding padded
+  padded-long T = length-tab (C .m) (λ a. codeBelow C T a (C .n))
+
+  pub padded-at : (T : List ℕ) (a : ℕ) → a < C .m → getD (padded C T) a 0 ≡ codeBelow C T a (C .n)
+  unfolding padded
+  padded-at T a l = tab-at (C .m) (λ a. codeBelow C T a (C .n)) a l
+
+  module _ (T : List ℕ) (long : length T ≡ C .n) where
+    -- An attribute that no member has is given by no table.
+    none-gives : (a : ℕ) → ((t : ℕ) → t < C .n → gives C T a t ≡ false) → (t : ℕ) → Member T t → C .has t a ≡ true → ⊥
+    none-gives a n t m h = clash (gives-iff T a t .1 (m, h)) (n t (member-table (tables C) T long t m))
+
+    -- A set has one embedding only.
+    pub embedding-unique : (r q : List ℕ) → Embedding C T r → Embedding C T q → r ≡ q
+    embedding-unique r q e f = ext-getD 0 r q (e .long ∙ sym (f .long)) (λ a l. go a (rw (e .long) at l) (first-below (C .n) (gives C T a)))
+      where
+        go : (a : ℕ) → a < C .m → FirstBelow (C .n) (gives C T a) → getD r a 0 ≡ getD q a 0
+        go a l (inl (t, b, y, n)) = let g = gives-iff T a t .0 y in e .from t a l (g .0) (g .1) ∙ sym (f .from t a l (g .0) (g .1))
+        go a l (inr n) = e .null a l (none-gives a n) ∙ sym (f .null a l (none-gives a n))
+
+    -- Two members of a consistent set have one code at an attribute of both.
+    one-code : Consistent (tables C) T → (t u a : ℕ) → a < C .m → Member T t → C .has t a ≡ true → Member T u → C .has u a ≡ true
+        → C .cell u (at T u) a ≡ C .cell t (at T t) a
+    one-code c t u a l m h n k = go (ℕ-discrete t u)
       where
         go : Dec (t ≡ u) → C .cell u (at T u) a ≡ C .cell t (at T t) a
         go (yes e) = ap (λ (x : ℕ). C .cell x (at T x) a) (sym e)
         go (no d) = sym (matching-iff t (at T t) u (at T u) .0 (c t u d m n) a l h k .1)
 
-    code-from : (t a : ℕ) → a < C .m → Member T t → C .has t a ≡ true → Coded T a (C .n) → codeBelow C T a (C .n) ≡ C .cell t (at T t) a
-    code-from t a l m h (inl (u, n, k, e)) = e ∙ one-code t u a l m h n k
-    code-from t a l m h (inr (n, e)) = absurd (n t (member-table (tables C) T long t m) (gives-iff T a t .1 (m, h)))
-
-    code-null : (a : ℕ) → ((t : ℕ) → Member T t → C .has t a ≡ true → ⊥) → Coded T a (C .n) → codeBelow C T a (C .n) ≡ 0
-    code-null a h (inl (u, n, k, e)) = absurd (h u n k)
-    code-null a h (inr (n, e)) = e
-
-    pub padded-embedding : Embedding C T (padded C T)
-    unfolding padded
-    padded-embedding =
+    pub padded-embedding : Consistent (tables C) T → Embedding C T (padded C T)
+    padded-embedding c =
         record {
-          long = length-tab (C .m) (λ a. codeBelow C T a (C .n));
-          from = λ t a l m h. tab-at (C .m) (λ a. codeBelow C T a (C .n)) a l ∙ code-from t a l m h (coded T a (C .n));
-          null = λ a l h. tab-at (C .m) (λ a. codeBelow C T a (C .n)) a l ∙ code-null a h (coded T a (C .n));
+          long = padded-long T;
+          from = λ t a l m h. padded-at T a l ∙ from t a l m h (first-below (C .n) (gives C T a));
+          null = λ a l h. padded-at T a l ∙ code-none T a (C .n) (λ t b. not-yes (gives C T a t) (λ y. let g = gives-iff T a t .0 y in h t (g .0) (g .1)));
         }
+      where
+        from : (t a : ℕ) → a < C .m → Member T t → C .has t a ≡ true → FirstBelow (C .n) (gives C T a) → codeBelow C T a (C .n) ≡ C .cell t (at T t) a
+        from t a l m h (inl (u, b, y, n)) = let g = gives-iff T a u .0 y in code-lowest T a (C .n) u b y n ∙ one-code c t u a l m h (g .0) (g .1)
+        from t a l m h (inr n) = absurd (none-gives a n t m h)
 
-  -- The padded row of a maximal set is a row of the full disjunction.
-  pub padded-maximal : (T : List ℕ) → Maximal (tables C) T → FullDisjunction C (padded C T)
-  padded-maximal T x = (T, x, padded-embedding T (x .jcc .valid .long) (x .jcc .consistent))
+  -- The full disjunction's rows are the padded rows of the maximal sets.
+  pub disjunction-rows : (r : List ℕ) → FullDisjunction C r ↔ ((T : List ℕ) × Maximal (tables C) T × (r ≡ padded C T))
+  disjunction-rows r = (
+    λ (T, x, e). (T, x, embedding-unique T (x .jcc .valid .long) r (padded C T) e (padded-embedding T (x .jcc .valid .long) (x .jcc .consistent))),
+    λ (T, x, e). (T, x, rw e (padded-embedding T (x .jcc .valid .long) (x .jcc .consistent))),
+  )
