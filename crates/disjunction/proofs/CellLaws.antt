@@ -6,21 +6,19 @@ use native.Mathlib.Nat.{not-suc-le-zero}
 use native.Mathlib.Decide.{ℕ-discrete}
 use mathlib.Core.Path.{_≡_, refl, sym, ap, _∙_}
 use mathlib.Core.Logic.{_⊎_, inl, inr, ⊎-elim, _↔_}
-use mathlib.Core.Bool.{Bool, true, false, not, cond, _&&_, _||_}
+use mathlib.Core.Bool.{true, false, not, _&&_, _||_}
 use mathlib.Core.List.{List}
 use lib.ListN.{length, getD}
 use lib.Seq.{ext-getD}
 use lib.Dec.{ltb, eqb}
 use borrow.Author.Tests.{ltb-true, lt-ltb, eqb-true, eq-eqb, not-true}
-use Rattle.laws.specs.Tests.{any, all}
-use Rattle.laws.specs.Lists.{tab}
-use Rattle.laws.proofs.TestLaws.{which, clash, and-split, and-join, or-case, or-left, or-right, below-suc, any-some, any-of, all-each, all-of}
+use Rattle.laws.proofs.TestLaws.{which, clash, not-yes, iff-eq, and-split, and-join, or-case, or-left, or-right, below-suc, any-some, any-of, all-each, all-of, any-none, FirstBelow, first-below}
 use Rattle.laws.proofs.ListLaws.{length-tab, tab-at}
-use Rattle.disjunction.specs.Sets.{Tables, Symmetric, at, Member, Consistent, Maximal}
+use Rattle.disjunction.specs.Sets.{Symmetric, at, Member, Consistent, Maximal}
 use Rattle.disjunction.specs.Rule.{member}
 use Rattle.disjunction.specs.Cells.{Cells, same, sharing, Sharing, matching, Matching, tables, gives, codeBelow, padded, Embedding, FullDisjunction}
 use Rattle.disjunction.proofs.RowSets.{member-table}
-use Rattle.disjunction.proofs.RowTests.{not-yes, iff-eq, member-iff}
+use Rattle.disjunction.proofs.RowTests.{member-iff}
 
 pub same-iff : (x y : ℕ) → (same x y ≡ true) ↔ ((0 < x) × (x ≡ y))
 unfolding same
@@ -33,23 +31,6 @@ same-iff x y = (
 pub same-null : (y : ℕ) → same 0 y ≡ false
 unfolding same
 same-null y = refl
-
--- ---- the lowest number below a bound that passes a test
-
-abbrev pub FirstBelow : ℕ → (ℕ → Bool) → Type 0
-FirstBelow k p = ((t : ℕ) × (t < k) × (p t ≡ true) × ((u : ℕ) → u < t → p u ≡ false)) ⊎ ((u : ℕ) → u < k → p u ≡ false)
-
-pub first-below : (k : ℕ) (p : ℕ → Bool) → FirstBelow k p
-first-below zero p = inr (λ u l. absurd (not-suc-le-zero l))
-first-below (suc k) p = go (first-below k p) (which (p k))
-  where
-    go : FirstBelow k p → (p k ≡ true) ⊎ (p k ≡ false) → FirstBelow (suc k) p
-    go (inl (t, l, y, n)) b = inl (t, omega arith, y, n)
-    go (inr n) (inl y) = inl (k, omega arith, y, n)
-    go (inr n) (inr f) = inr (λ u l. ⊎-elim (λ e. rw e f) (λ q. n u q) (below-suc l))
-
-pub any-none : (k : ℕ) (p : ℕ → Bool) → ((u : ℕ) → u < k → p u ≡ false) → any k p ≡ false
-any-none k p n = not-yes (any k p) (λ e. let (u, l, y) = any-some k p e in clash y (n u l))
 
 module _ (C : Cells) where
   -- ---- touching

@@ -1,22 +1,22 @@
 -- What is not empty, holds only JCC sets and is closed under trials, holds every maximal set (document 000, Lemma 4.2). A connected part of a maximal
 -- set M that lies in one of the sets grows by one row of M with each trial, until it is M. Assumes nothing.
-use Prim.Native.Nat.{ℕ, zero, suc, _+_, _*_, _≤_, _<_}
+use Prim.Native.Nat.{ℕ, zero, suc, _+_, _<_}
 use native.Mathlib.Omega.{arith}
 use native.Mathlib.Nat.{eq-zero-or-pos}
 use mathlib.Core.Path.{_≡_, refl, sym, subst, _∙_}
 use mathlib.Core.Logic.{_≢_, _⊎_, inl, inr, ⊎-elim}
-use mathlib.Core.Bool.{Bool, true, false, _&&_}
+use mathlib.Core.Bool.{true, false, _&&_}
 use mathlib.Core.List.{List}
-use lib.ListN.{length, getD, set}
+use lib.ListN.{length}
 use lib.Seq.{getD-set-same, getD-set-other}
 use Rattle.laws.specs.Tests.{any}
 use Rattle.laws.proofs.TestLaws.{which, clash, and-split, and-join, any-some, any-of}
 use Rattle.disjunction.specs.Sets.{Tables, Symmetric, at, Member, size, Within, Row, Valid, JCC, Maximal}
-use Rattle.disjunction.specs.Rule.{Place, rowIn, addRow, rows, member, absent, rowTest, Grown, extension, alone, start, trial}
+use Rattle.disjunction.specs.Rule.{Place, rowIn, addRow, rows, member, absent, rowTest, extension, alone, start, trial}
 use Rattle.disjunction.proofs.RowSets.{member-lt, sets-equal, size-le, size-pos, size-set, within-refl, within-trans, within-member, within-add, add-within, member-row, alone-here, alone-only, alone-within}
 use Rattle.disjunction.proofs.RowTests.{member-iff, absent-iff}
 use Rattle.disjunction.proofs.Ways.{Crossing, cross}
-use Rattle.disjunction.proofs.Growing.{Full}
+use Rattle.disjunction.proofs.Growing.{Settled}
 use Rattle.disjunction.proofs.Extending.{crossing-yes, jcc-add, alone-jcc, extension-valid, Extended, extension-maximal}
 use Rattle.disjunction.proofs.Starting.{start-piece, start-valid, start-jcc, start-largest}
 
@@ -63,7 +63,7 @@ module _ (W : Tables) (S : Symmetric W) where
 
   -- Of a set that is only valid, as in a damaged store.
   pub trial-valid : (T : List ℕ) (s : Place) → Valid W T → Row W (s .table) (s .row)
-      → Full (rowTest W) (rows W) (Valid W) (W .n) (start W T s) (trial W T s)
+      → Settled (rowTest W) (rows W) (Valid W) (W .n) (start W T s) (trial W T s)
   unfolding trial
   trial-valid T s v r =
       extension-valid W (start W T s) (start-valid W S T s v r) (size-pos (start W T s) (s .table) (start-piece W S T s r .has))

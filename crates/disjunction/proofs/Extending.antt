@@ -1,22 +1,22 @@
 -- The extension of a JCC set is maximal. Its rounds keep the set JCC (`jcc-add`), and a JCC set on which no row test says yes is maximal, since a
 -- larger one would leave it by a row whose test says yes (`crossing-yes`). Assumes nothing.
-use Prim.Native.Nat.{ℕ, zero, suc, _+_, _*_, _≤_, _<_}
+use Prim.Native.Nat.{ℕ, suc, _*_, _≤_, _<_}
 use native.Mathlib.Omega.{arith}
 use native.Mathlib.Nat.{eq-zero-or-pos}
-use mathlib.Core.Path.{_≡_, refl, sym, ap, _∙_}
-use mathlib.Core.Logic.{_≢_, _⊎_, inl, inr, ⊎-elim}
-use mathlib.Core.Bool.{Bool, true, false}
+use mathlib.Core.Path.{_≡_, sym, ap, _∙_}
+use mathlib.Core.Logic.{_⊎_, inl, inr, ⊎-elim}
+use mathlib.Core.Bool.{true, false}
 use mathlib.Core.List.{List, List·Memᴰ}
 use lib.ListN.{length}
 use lib.Seq.{getD-set-same}
-use Rattle.laws.proofs.TestLaws.{clash}
+use Rattle.laws.proofs.TestLaws.{clash, not-yes}
 use Rattle.disjunction.specs.Sets.{Tables, Symmetric, at, Member, size, Within, Row, Valid, Consistent, JCC, Maximal}
 use Rattle.disjunction.specs.Rule.{Place, rowIn, addRow, rows, Agrees, rowTest, Addable, walk, Grown, after, grow, extension, alone}
-use Rattle.disjunction.proofs.RowSets.{sets-equal, size-pos, within-member, add-cases, add-within, member-table, member-row, valid-add, alone-long, alone-at, alone-here, alone-only}
-use Rattle.disjunction.proofs.RowTests.{not-yes, rowTest-iff, rowTest-absent}
+use Rattle.disjunction.proofs.RowSets.{sets-equal, size-pos, within-member, add-cases, add-within, member-row, valid-add, alone-long, alone-at, alone-here, alone-only}
+use Rattle.disjunction.proofs.RowTests.{rowTest-iff, rowTest-absent}
 use Rattle.disjunction.proofs.RowOrder.{in-rows, rows-all}
 use Rattle.disjunction.proofs.Ways.{Crossing, cross, alone-connected, connected-add}
-use Rattle.disjunction.proofs.Growing.{New, Full, grown, grow-fuel}
+use Rattle.disjunction.proofs.Growing.{New, Settled, grown, grow-fuel}
 
 module _ (W : Tables) where
   -- No row can be added to T.
@@ -108,16 +108,16 @@ module _ (W : Tables) where
   extension-step T h p = grow-fuel (rowTest W) (rows W) (W .n) test-new (W .n) (suc (W .n)) T h (omega arith) (omega arith)
 
   -- Whatever a row that can be added keeps, the extension keeps.
-  pub extension-full : (P : List ℕ → Type 0) → ((T : List ℕ) → P T → length T ≡ W .n)
+  pub extension-settled : (P : List ℕ → Type 0) → ((T : List ℕ) → P T → length T ≡ W .n)
       → ((T : List ℕ) (p : Place) → P T → Row W (p .table) (p .row) → rowTest W T p ≡ true → P (addRow T p))
-      → (T : List ℕ) → P T → 0 < size T → Full (rowTest W) (rows W) P (W .n) T (extension W T)
+      → (T : List ℕ) → P T → 0 < size T → Settled (rowTest W) (rows W) P (W .n) T (extension W T)
   unfolding extension
-  extension-full P long keep T h some =
+  extension-settled P long keep T h some =
       grown (rowTest W) (rows W) (W .n) P long (λ U p k. test-new U p) (λ U p k m e. keep U p k (in-rows W p m) e) (W .n) T h (omega arith)
 
   -- Of a set that is only valid, as in a damaged store: its extension is valid, holds it, and takes at most n * N tests.
-  pub extension-valid : (T : List ℕ) → Valid W T → 0 < size T → Full (rowTest W) (rows W) (Valid W) (W .n) T (extension W T)
-  extension-valid = extension-full (Valid W) (λ T v. v .long) (λ T p v r e. valid-add W T p v r)
+  pub extension-valid : (T : List ℕ) → Valid W T → 0 < size T → Settled (rowTest W) (rows W) (Valid W) (W .n) T (extension W T)
+  extension-valid = extension-settled (Valid W) (λ T v. v .long) (λ T p v r e. valid-add W T p v r)
 
   -- What the extension g of T is.
   pub record Extended (T : List ℕ) (g : Grown) : Type 0 where
@@ -128,6 +128,6 @@ module _ (W : Tables) where
 
   pub extension-maximal : Symmetric W → (T : List ℕ) → JCC W T → Extended T (extension W T)
   extension-maximal S T j =
-      let f = extension-full (JCC W) (λ U k. k .valid .long) (jcc-add S) T j (size-pos T (j .some .0) (j .some .1)) in
+      let f = extension-settled (JCC W) (λ U k. k .valid .long) (jcc-add S) T j (size-pos T (j .some .0) (j .some .1)) in
       let c : Closed (extension W T .rows) = λ p r. f .none p (rows-all W p r) in
       record { maximal = closed-maximal (extension W T .rows) (f .kept) c; holds = f .holds; closed = c; few = f .few }

@@ -7,7 +7,7 @@ use mathlib.Core.Path.{_≡_, refl, ap, _∙_}
 use mathlib.Core.Logic.{⊎-elim}
 use mathlib.Core.Bool.{Bool, true, false, cond}
 use mathlib.Core.List.{List, [], _∷_, List·Memᴰ, List·Memᴰ·head, List·Memᴰ·tail, List·Memᴰ·cases-cons, List·Memᴰ·not-nil}
-use lib.ListN.{length, getD, set, length-set}
+use lib.ListN.{length, getD, length-set}
 use Rattle.disjunction.specs.Sets.{at, size, Within}
 use Rattle.disjunction.specs.Rule.{Place, addRow, Round, hit, miss, more, walk, Grown, after, grow}
 use Rattle.disjunction.proofs.RowSets.{size-le, size-set, within-refl, within-trans, add-within}
@@ -50,7 +50,7 @@ walk-miss ok (p ∷ l) d f = rw (f 0 (omega arith)) (ap more (walk-miss ok l d (
 -- ---- rounds
 
 -- What at most k rounds from T come to, where P is kept: a set that P holds of, with T's rows, to which no row of the list can be added.
-pub record Full (ok : List ℕ → Place → Bool) (l : List Place) (P : List ℕ → Type 0) (k : ℕ) (T : List ℕ) (g : Grown) : Type 0 where
+pub record Settled (ok : List ℕ → Place → Bool) (l : List Place) (P : List ℕ → Type 0) (k : ℕ) (T : List ℕ) (g : Grown) : Type 0 where
   pub kept : P (g .rows)
   pub holds : Within T (g .rows)
   pub none : (p : Place) → List·Memᴰ p l → ok (g .rows) p ≡ false
@@ -68,10 +68,10 @@ module _ (ok : List ℕ → Place → Bool) (l : List Place) (n : ℕ) (P : List
     (new : (T : List ℕ) (p : Place) → P T → List·Memᴰ p l → ok T p ≡ true → New n T p)
     (keep : (T : List ℕ) (p : Place) → P T → List·Memᴰ p l → ok T p ≡ true → P (addRow T p)) where
   -- One round before the others.
-  full-after : (k : ℕ) (T : List ℕ) (w : Round) → P T → n < size T + suc k → Walked (ok T) l w
-      → ((U : List ℕ) → P U → n < size U + k → Full ok l P k U (grow ok l k U)) → Full ok l P (suc k) T (after w T (λ U. grow ok l k U))
-  full-after k T (miss c) h e w ih = record { kept = h; holds = within-refl T; none = w .1; few = omega (arith, w .0) }
-  full-after k T (hit c p) h e w ih =
+  settled-after : (k : ℕ) (T : List ℕ) (w : Round) → P T → n < size T + suc k → Walked (ok T) l w
+      → ((U : List ℕ) → P U → n < size U + k → Settled ok l P k U (grow ok l k U)) → Settled ok l P (suc k) T (after w T (λ U. grow ok l k U))
+  settled-after k T (miss c) h e w ih = record { kept = h; holds = within-refl T; none = w .1; few = omega (arith, w .0) }
+  settled-after k T (hit c p) h e w ih =
       let a = new T p h (w .1) (w .2) in
       let s = size-new n T p (long T h) a in
       let r = ih (addRow T p) (keep T p h (w .1) (w .2)) (omega arith) in
@@ -79,10 +79,10 @@ module _ (ok : List ℕ → Place → Bool) (l : List Place) (n : ℕ) (P : List
       record { kept = r .kept; holds = i; none = r .none; few = omega (arith, w .0, r .few) }
 
   -- Enough rounds: T's rows and the rounds are together more than the tables.
-  pub grown : (k : ℕ) (T : List ℕ) → P T → n < size T + k → Full ok l P k T (grow ok l k T)
+  pub grown : (k : ℕ) (T : List ℕ) → P T → n < size T + k → Settled ok l P k T (grow ok l k T)
   unfolding grow
   grown zero T h e = absurd (omega (arith, size-le T, long T h))
-  grown (suc k) T h e = full-after k T (walk (ok T) l) h e (walked (ok T) l) (λ U. grown k U)
+  grown (suc k) T h e = settled-after k T (walk (ok T) l) h e (walked (ok T) l) (λ U. grown k U)
 
 -- More rounds than enough make no difference.
 module _ (ok : List ℕ → Place → Bool) (l : List Place) (n : ℕ)

@@ -1,20 +1,21 @@
 -- The stream over a list of sets: it keeps distinct maximal sets, and once every set was tried with every row it has all of them. `Going` is the
 -- invariant; `complete` closes it. Assumes nothing.
-use Prim.Native.Nat.{ℕ, zero, suc, _+_, _-_, _≤_, _<_}
+use Prim.Native.Nat.{ℕ, _+_, _-_, _≤_, _<_}
 use native.Mathlib.Omega.{arith}
 use native.Mathlib.Nat.{not-suc-le-zero}
-use mathlib.Core.Path.{_≡_, refl, sym, _∙_}
+use mathlib.Core.Path.{_≡_, refl}
 use mathlib.Core.Logic.{_⊎_, inl, inr, ⊎-elim, _↔_}
-use mathlib.Core.List.{List, [], _∷_, _++_, List·Memᴰ, List·Memᴰ·head, List·Memᴰ·tail, List·Memᴰ·not-nil, Memᴰ·append-left, Memᴰ·append-right, List·Memᴰ·append-cases, List·Memᴰ·eq-of-singleton}
+use mathlib.Core.List.{List, [], _∷_, _++_, List·Memᴰ, List·Memᴰ·head, List·Memᴰ·not-nil, Memᴰ·append-left, Memᴰ·append-right, List·Memᴰ·append-cases, List·Memᴰ·eq-of-singleton}
 use lib.ListN.{length, getD, length-append, List·getD-append}
 use Rattle.laws.specs.Distinct.{Distinct, none, more}
 use Rattle.laws.proofs.TestLaws.{below-suc}
-use Rattle.laws.proofs.DistinctLaws.{distinct-le}
-use Rattle.disjunction.specs.Sets.{Tables, Symmetric, at, Row, JCC, Maximal}
-use Rattle.disjunction.specs.Rule.{Place, rowIn, rows, rowAt, Grown, extension, alone, trial}
+use Rattle.laws.proofs.MemberLaws.{mem-at, at-mem}
+use Rattle.laws.proofs.DistinctLaws.{distinct-end, distinct-le}
+use Rattle.disjunction.specs.Sets.{Tables, Symmetric, Row, JCC, Maximal, MoreThan}
+use Rattle.disjunction.specs.Rule.{Place, rowIn, rows, rowAt, extension, alone, trial}
 use Rattle.disjunction.specs.Keeping.{decMemᴰ, sets-discrete, stored, keep, State, take, trialNow, try}
 use Rattle.disjunction.proofs.RowSets.{member-row}
-use Rattle.disjunction.proofs.RowOrder.{mem-at, at-mem, rowAt-row, row-place}
+use Rattle.disjunction.proofs.RowOrder.{rowAt-row, row-place}
 use Rattle.disjunction.proofs.Completeness.{trial-maximal, complete, row-stands}
 
 -- ---- keeping a set
@@ -52,13 +53,6 @@ keep-at l T i b = keep-elim (λ k. getD k i [] ≡ getD l i []) l T (λ h. refl)
 pub keep-long : (l : List (List ℕ)) (T : List ℕ) → length l ≤ length (keep l T)
 keep-long l T = keep-elim (λ k. length l ≤ length k) l T (λ h. omega arith) (λ h. omega (arith, length-append l (T ∷ [])))
 
-pub distinct-end : {A : Type 0} {l : List A} {x : A} → Distinct l → (List·Memᴰ x l → ⊥) → Distinct (l ++ (x ∷ []))
-distinct-end none h = more List·Memᴰ·not-nil none
-distinct-end {x} (more {x = y} {l = l} g d) h =
-    more
-    (λ k. ⊎-elim (λ a. g a) (λ a. h (List·Memᴰ·head (sym (List·Memᴰ·eq-of-singleton a)))) (List·Memᴰ·append-cases l k))
-    (distinct-end d (λ k. h (List·Memᴰ·tail k)))
-
 pub keep-distinct : (l : List (List ℕ)) (T : List ℕ) → Distinct l → Distinct (keep l T)
 keep-distinct l T d = keep-elim (λ k. Distinct k) l T (λ m. d) (λ h. distinct-end d h)
 
@@ -79,10 +73,6 @@ module _ (W : Tables) where
     pub taken-le : q .taken ≤ length (q .sets)
     pub next-le : q .next ≤ length (rows W)
     pub tried : (i j : ℕ) → Tried q i j → List·Memᴰ (foundBy (getD (q .sets) i []) j) (q .sets)
-
-  -- There are more than c maximal sets.
-  abbrev pub MoreThan : ℕ → Type 0
-  MoreThan c = (l : List (List ℕ)) × Distinct l × ((T : List ℕ) → List·Memᴰ T l → Maximal W T) × (c < length l)
 
   -- Without rows there is no JCC set.
   pub none-jcc : length (rows W) ≡ 0 → (T : List ℕ) → JCC W T → ⊥
@@ -164,11 +154,11 @@ module _ (W : Tables) where
             rw (e, f) (g .tried i j (⊎-elim (λ c. inr (c, rw b l)) (λ c. inl (c, l)) (below-suc {u = i + 1} {k = q .taken} (omega arith))))
 
     -- A trial that finds a new set while c are stored shows that there are more than c.
-    pub full-more : (q : State) → Going q → 0 < q .taken → q .next < length (rows W) → length (q .sets) < length (try W q .sets) → MoreThan (length (q .sets))
+    pub full-more : (q : State) → Going q → 0 < q .taken → q .next < length (rows W) → length (q .sets) < length (try W q .sets) → MoreThan W (length (q .sets))
     full-more q g a b h = let k = going-try q g a b in (try W q .sets, k .distinct, k .maximal, h)
 
     -- Once finished, there are no more than those stored.
-    pub finished-no-more : (q : State) → Going q → 0 < length (q .sets) → q .taken ≡ length (q .sets) → q .next ≡ length (rows W) → MoreThan (length (q .sets)) → ⊥
+    pub finished-no-more : (q : State) → Going q → 0 < length (q .sets) → q .taken ≡ length (q .sets) → q .next ≡ length (rows W) → MoreThan W (length (q .sets)) → ⊥
     finished-no-more q g p a b (l, d, m, h) =
         omega (arith, distinct-le l (q .sets) d (λ T k. finished q g p a b T .0 (m T k)))
 

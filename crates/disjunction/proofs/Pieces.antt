@@ -1,20 +1,20 @@
 -- The piece of a set that holds a row: the rule's rounds give it, and there is one only, however it is found. A part of the set that no row of it
 -- joins is the piece, since a way that left the part would do so by a row that joins it. Assumes nothing.
-use Prim.Native.Nat.{ℕ, zero, suc, _+_, _≤_, _<_}
+use Prim.Native.Nat.{ℕ, zero, suc, _<_}
 use native.Mathlib.Omega.{arith}
 use native.Mathlib.Nat.{eq-zero-or-pos, not-suc-le-zero}
 use mathlib.Core.Path.{_≡_, refl, sym, ap, subst, _∙_}
 use mathlib.Core.Logic.{_⊎_, inl, inr, ⊎-elim}
 use mathlib.Core.Bool.{Bool, true, false, cond}
-use mathlib.Core.List.{List, [], _∷_, _++_, List·Memᴰ, List·Memᴰ·head, List·Memᴰ·not-nil, Memᴰ·append-left, Memᴰ·append-right, List·Memᴰ·append-cases, List·Memᴰ·eq-of-singleton}
+use mathlib.Core.List.{List, [], _∷_, List·Memᴰ, List·Memᴰ·head, List·Memᴰ·not-nil, Memᴰ·append-left, Memᴰ·append-right, List·Memᴰ·append-cases, List·Memᴰ·eq-of-singleton}
 use lib.ListN.{length, length-set}
 use Rattle.laws.proofs.TestLaws.{clash, below-suc}
 use Rattle.disjunction.specs.Sets.{Tables, Symmetric, at, Member, Within, Way, Connected}
-use Rattle.disjunction.specs.Rule.{Place, rowIn, addRow, member, alone, joins, membersBelow, Grown, grow, piece, Piece}
+use Rattle.disjunction.specs.Rule.{Place, rowIn, addRow, member, alone, joins, membersBelow, grow, piece, Piece}
 use Rattle.disjunction.proofs.RowSets.{sets-equal, size-pos, within-member, within-add, add-within, member-table, alone-long, alone-here, alone-within}
 use Rattle.disjunction.proofs.RowTests.{member-iff, joins-iff}
 use Rattle.disjunction.proofs.Ways.{way-mono, cross, alone-connected, connected-add}
-use Rattle.disjunction.proofs.Growing.{New, Full, grown}
+use Rattle.disjunction.proofs.Growing.{New, Settled, grown}
 
 module _ (W : Tables) where
   -- ---- the list of D's rows
@@ -100,7 +100,7 @@ module _ (W : Tables) where
       a : Part D s (alone W s)
       a = part-alone D s k r e
 
-      f : Full (joins W) (membersBelow W D (W .n)) (Part D s) (W .n) (alone W s) (grow (joins W) (membersBelow W D (W .n)) (W .n) (alone W s))
+      f : Settled (joins W) (membersBelow W D (W .n)) (Part D s) (W .n) (alone W s) (grow (joins W) (membersBelow W D (W .n)) (W .n) (alone W s))
       f = grown (joins W) (membersBelow W D (W .n)) (W .n) (Part D s) (λ E h. h .long) new keep (W .n) (alone W s) a (omega (arith, size-pos (alone W s) (s .table) (a .has)))
 
   -- A piece is within every other: its tables are those to which D has a way from s.

@@ -1,27 +1,16 @@
 -- The row order holds every row, and where it holds it. Induction on the tables, and on the rows of one, carries it. Assumes nothing.
 use Prim.Native.Nat.{ℕ, zero, suc, _+_, _≤_, _<_}
 use native.Mathlib.Omega.{arith}
-use native.Mathlib.Nat.{not-suc-le-zero, le-of-suc-le-suc}
+use native.Mathlib.Nat.{not-suc-le-zero}
 use mathlib.Core.Path.{_≡_, refl, ap, _∙_}
-use mathlib.Core.Logic.{_⊎_, inl, inr, ⊎-elim}
-use mathlib.Core.List.{List, [], _∷_, _++_, List·Memᴰ, List·Memᴰ·head, List·Memᴰ·tail, List·Memᴰ·not-nil, Memᴰ·append-left, Memᴰ·append-right, List·Memᴰ·append-cases, List·Memᴰ·eq-of-singleton}
+use mathlib.Core.Logic.{⊎-elim}
+use mathlib.Core.List.{[], _∷_, List·Memᴰ, List·Memᴰ·head, List·Memᴰ·not-nil, Memᴰ·append-left, Memᴰ·append-right, List·Memᴰ·append-cases, List·Memᴰ·eq-of-singleton}
 use lib.ListN.{length, getD, length-append, List·getD-append}
 use lib.Seq.{getD-append-add, getD-at}
 use Rattle.laws.proofs.TestLaws.{below-suc}
+use Rattle.laws.proofs.MemberLaws.{mem-at, at-mem}
 use Rattle.disjunction.specs.Sets.{Tables, Row}
 use Rattle.disjunction.specs.Rule.{Place, rowsTo, rowsBelow, rows, rowAt}
-
--- ---- what stands in a list stands at a place of it
-
-module _ {A : Type 0} where
-  pub mem-at : (l : List A) (d : A) (i : ℕ) → i < length l → List·Memᴰ (getD l i d) l
-  mem-at [] d i h = absurd (not-suc-le-zero h)
-  mem-at (x ∷ l) d zero h = List·Memᴰ·head refl
-  mem-at (x ∷ l) d (suc i) h = List·Memᴰ·tail (mem-at l d i (le-of-suc-le-suc h))
-
-  pub at-mem : (d : A) {x : A} {l : List A} → List·Memᴰ x l → (i : ℕ) × (i < length l) × (x ≡ getD l i d)
-  at-mem d (List·Memᴰ·head e) = (0, omega arith, e)
-  at-mem d (List·Memᴰ·tail m) = let r = at-mem d m in (suc (r .0), omega (arith, r .1), r .2)
 
 -- ---- the rows of one table
 

@@ -1,27 +1,17 @@
 -- What a yes of each test says, and that it is said only then. The laws of `any` and `all` carry them. Assumes nothing.
-use Prim.Native.Nat.{ℕ, zero, suc, _<_}
+use Prim.Native.Nat.{ℕ}
 use native.Mathlib.Omega.{arith}
 use native.Mathlib.Nat.{eq-zero-or-pos}
-use mathlib.Core.Path.{_≡_, refl, sym, _∙_}
-use mathlib.Core.Logic.{_⊎_, inl, inr, ⊎-elim, _↔_}
-use mathlib.Core.Bool.{Bool, true, false, _&&_, _||_}
+use mathlib.Core.Path.{_≡_}
+use mathlib.Core.Logic.{⊎-elim, _↔_}
+use mathlib.Core.Bool.{true, _&&_, _||_}
 use mathlib.Core.List.{List}
 use lib.ListN.{length}
-use lib.Dec.{ltb, eqb}
 use borrow.Author.Tests.{ltb-true, lt-ltb, eqb-true, eq-eqb}
-use Rattle.laws.specs.Tests.{any, all}
-use Rattle.laws.proofs.TestLaws.{which, clash, and-split, and-join, or-case, or-left, or-right, any-some, any-of, all-each, all-of}
+use Rattle.laws.proofs.TestLaws.{and-split, and-join, or-case, or-left, or-right, any-some, any-of, all-each, all-of}
 use Rattle.disjunction.specs.Sets.{Tables, at, Member}
 use Rattle.disjunction.specs.Rule.{Place, member, absent, near, Near, agrees, Agrees, rowTest, Addable, joins, Joinable}
 use Rattle.disjunction.proofs.RowSets.{member-table}
-
--- A test that never says yes says no; two tests that say yes together are one.
-pub not-yes : (b : Bool) → (b ≡ true → ⊥) → b ≡ false
-not-yes b h = ⊎-elim (λ e. absurd (h e)) (λ e. e) (which b)
-
-pub iff-eq : (a b : Bool) → (a ≡ true → b ≡ true) → (b ≡ true → a ≡ true) → a ≡ b
-iff-eq true b f g = sym (f refl)
-iff-eq false b f g = sym (not-yes b (λ e. clash (g e) refl))
 
 pub member-iff : (T : List ℕ) (t : ℕ) → (member T t ≡ true) ↔ Member T t
 unfolding member

@@ -1,20 +1,20 @@
 -- Whole examples, computed by the definitions: document 01's input of 25 bytes with its row tests, the four joins that go astray there, and document
 -- 000's Example 2.3. That the sets found are all the maximal ones is `drained-all`. Assumes nothing.
-use Prim.Native.Nat.{ℕ, zero, suc, _-_, _<_}
+use Prim.Native.Nat.{ℕ, _-_}
 use native.Mathlib.Omega.{arith}
 use native.Mathlib.Decide.{ℕ-discrete}
 use mathlib.Core.Path.{_≡_, refl}
 use mathlib.Core.Logic.{_↔_}
-use mathlib.Core.Bool.{Bool, true, false, cond, _||_}
+use mathlib.Core.Bool.{Bool, false, cond, _||_}
 use mathlib.Core.List.{List, [], _∷_, List·Memᴰ}
 use lib.ListN.{length, getD}
 use lib.Dec.{eqb}
 use Rattle.laws.specs.Tests.{any, all}
 use Rattle.laws.specs.Lists.{tab}
-use Rattle.disjunction.specs.Sets.{Tables, Maximal}
-use Rattle.disjunction.specs.Rule.{rowsTo, rowsBelow, rows, rowAt, member, absent, near, agrees, rowTest, walk, Grown, grow, extension, stays, dropped, alone, joins, membersBelow, piece, start, trial}
+use Rattle.disjunction.specs.Sets.{Maximal}
+use Rattle.disjunction.specs.Rule.{rowsTo, rowsBelow, rows, rowAt, member, absent, near, agrees, rowTest, walk, grow, extension, stays, dropped, alone, joins, membersBelow, piece, start, trial}
 use Rattle.disjunction.specs.Cells.{Cells, same, sharing, matching, tables, gives, codeBelow, padded}
-use Rattle.disjunction.specs.Keeping.{sameDec, sets-discrete, decMemᴰ, stored, keep, State, take, try}
+use Rattle.disjunction.specs.Keeping.{sameDec, sets-discrete, decMemᴰ, stored, keep, take, try}
 use Rattle.disjunction.proofs.CellLaws.{tables-symmetric}
 use Rattle.disjunction.proofs.Draining.{opened, drainBy, drain, ended, drained-all}
 

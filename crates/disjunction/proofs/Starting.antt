@@ -4,9 +4,9 @@ use Prim.Native.Nat.{ℕ, _≤_, _<_}
 use native.Mathlib.Omega.{arith}
 use native.Mathlib.Nat.{eq-zero-or-pos}
 use native.Mathlib.Decide.{ℕ-discrete}
-use mathlib.Core.Path.{_≡_, refl, sym, ap, _∙_}
+use mathlib.Core.Path.{_≡_, sym, _∙_}
 use mathlib.Core.Logic.{_≢_, _⊎_, inl, inr, ⊎-elim}
-use mathlib.Core.Bool.{Bool, true, false, cond}
+use mathlib.Core.Bool.{true, false, cond}
 use mathlib.Core.List.{List}
 use lib.ListN.{length, length-set}
 use lib.Seq.{getD-set-same, getD-set-other}
@@ -16,7 +16,7 @@ use Rattle.laws.specs.Lists.{tab}
 use Rattle.laws.proofs.TestLaws.{which}
 use Rattle.laws.proofs.ListLaws.{length-tab, tab-at}
 use Rattle.disjunction.specs.Sets.{Tables, Symmetric, at, Member, Within, Row, Valid, Consistent, JCC}
-use Rattle.disjunction.specs.Rule.{Place, addRow, stays, dropped, Piece, start}
+use Rattle.disjunction.specs.Rule.{Place, stays, dropped, Piece, start}
 use Rattle.disjunction.proofs.RowSets.{within-member, member-table}
 use Rattle.disjunction.proofs.Ways.{way-mono}
 use Rattle.disjunction.proofs.Extending.{Taken, taken-consistent}

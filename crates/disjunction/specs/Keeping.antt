@@ -1,13 +1,13 @@
 -- The stream with its store seen as a list of sets: what a trial leaves in it, and what handing out does (document 01, 'The stream's own rule').
 -- Keys, links, budgets and refusals are left to the stream's own definitions. Everything here computes. Assumes nothing.
-use Prim.Native.Nat.{ℕ, zero, suc, _+_, _-_}
+use Prim.Native.Nat.{ℕ, _+_, _-_}
 use native.Mathlib.Decide.{ℕ-discrete}
 use mathlib.Core.Path.{_≡_, refl, ap₂}
 use mathlib.Core.Logic.{⊎-elim}
 use mathlib.Core.List.{List, [], _∷_, _++_, List·Memᴰ, List·Memᴰ·head, List·Memᴰ·tail, List·Memᴰ·cases-cons, List·Memᴰ·not-nil, nil≢cons, cons≢nil, head-eq-of-cons-eq, tail-eq-of-cons-eq}
-use lib.ListN.{length, getD}
+use lib.ListN.{getD}
 use Rattle.disjunction.specs.Sets.{Tables}
-use Rattle.disjunction.specs.Rule.{Place, rows, rowAt, Grown, trial}
+use Rattle.disjunction.specs.Rule.{rows, rowAt, Grown, trial}
 
 -- Whether two sets are equal. (The library's own decision of it cannot be unfolded.)
 unfoldable pub sameDec : {x y : ℕ} {xs ys : List ℕ} → Dec (x ≡ y) → Dec (xs ≡ ys) → Dec (_≡_ {A = List ℕ} (x ∷ xs) (y ∷ ys))

@@ -3,9 +3,10 @@
 use Prim.Native.Nat.{ℕ, zero, suc, _≤_, _<_}
 use mathlib.Core.Path.{_≡_}
 use mathlib.Core.Logic.{_≢_}
-use mathlib.Core.Bool.{Bool, true, false}
-use mathlib.Core.List.{List, [], _∷_}
+use mathlib.Core.Bool.{Bool, true}
+use mathlib.Core.List.{List, [], _∷_, List·Memᴰ}
 use lib.ListN.{length, getD}
+use Rattle.laws.specs.Distinct.{Distinct}
 
 -- "Consider a set R = {R1, .., Rn} of relations." Tables are numbered from 0, the rows of table t from 1 to `count t`. `touches t u`: there is "an
 -- edge between two schemes"; `fits t r u q`: row r of table t and row q of table u "are join consistent".
@@ -76,3 +77,7 @@ module _ (W : Tables) where
   pub record Maximal (T : List ℕ) : Type 0 where
     pub jcc : JCC T
     pub largest : (U : List ℕ) → JCC U → Within T U → U ≡ T
+
+  -- There are more than c maximal sets.
+  abbrev pub MoreThan : ℕ → Type 0
+  MoreThan c = (l : List (List ℕ)) × Distinct l × ((T : List ℕ) → List·Memᴰ T l → Maximal T) × (c < length l)
