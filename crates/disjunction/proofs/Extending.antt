@@ -48,13 +48,13 @@ module _ (W : Tables) where
   -- ---- a row that can be added keeps the set JCC
 
   -- Table u's row in E is s, or a row of T that is consistent with s.
-  abbrev pub Taken : List ℕ → Place → List ℕ → ℕ → Type 0
-  Taken T s E u = ((u ≡ s .table) × (at E u ≡ s .row)) ⊎ ((at E u ≡ at T u) × (W .fits u (at T u) (s .table) (s .row) ≡ true))
+  abbrev pub Drawn : List ℕ → Place → List ℕ → ℕ → Type 0
+  Drawn T s E u = ((u ≡ s .table) × (at E u ≡ s .row)) ⊎ ((at E u ≡ at T u) × (W .fits u (at T u) (s .table) (s .row) ≡ true))
 
-  pub taken-consistent : Symmetric W → (T : List ℕ) (s : Place) (E : List ℕ) → Consistent W T → ((u : ℕ) → Member E u → Taken T s E u) → Consistent W E
-  taken-consistent S T s E c from t u d m m′ = go (from t m) (from u m′)
+  pub drawn-consistent : Symmetric W → (T : List ℕ) (s : Place) (E : List ℕ) → Consistent W T → ((u : ℕ) → Member E u → Drawn T s E u) → Consistent W E
+  drawn-consistent S T s E c from t u d m m′ = go (from t m) (from u m′)
     where
-      go : Taken T s E t → Taken T s E u → W .fits t (at E t) u (at E u) ≡ true
+      go : Drawn T s E t → Drawn T s E u → W .fits t (at E t) u (at E u) ≡ true
       go (inl x) (inl y) = absurd (d (x .0 ∙ sym (y .0)))
       go (inl x) (inr y) = rw (x .1, y .0, x .0) (S .fit (s .table) (s .row) u (at T u) ∙ y .1)
       go (inr x) (inl y) = rw (x .0, y .1, y .0) (x .1)
@@ -62,7 +62,7 @@ module _ (W : Tables) where
 
   pub consistent-add : Symmetric W → (T : List ℕ) (p : Place) → p .table < length T → Consistent W T → Agrees W T p → Consistent W (addRow T p)
   consistent-add S T p l c a =
-      taken-consistent S T p (addRow T p) c (λ u m. ⊎-elim (λ x. inl x) (λ x. inr (x .1, a u (rw (x .1) at m))) (add-cases T p u l))
+      drawn-consistent S T p (addRow T p) c (λ u m. ⊎-elim (λ x. inl x) (λ x. inr (x .1, a u (rw (x .1) at m))) (add-cases T p u l))
 
   pub jcc-add : Symmetric W → (T : List ℕ) (p : Place) → JCC W T → Row W (p .table) (p .row) → rowTest W T p ≡ true → JCC W (addRow T p)
   jcc-add S T p j r h =

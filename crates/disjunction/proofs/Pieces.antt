@@ -10,11 +10,11 @@ use mathlib.Core.List.{List, [], _∷_, List·Memᴰ, List·Memᴰ·head, List·
 use lib.ListN.{length, length-set}
 use Rattle.laws.proofs.TestLaws.{clash, below-suc}
 use Rattle.disjunction.specs.Sets.{Tables, Symmetric, at, Member, Within, Way, Connected}
-use Rattle.disjunction.specs.Rule.{Place, rowIn, addRow, member, alone, joins, membersBelow, grow, piece, Piece}
+use Rattle.disjunction.specs.Rule.{Place, rowIn, addRow, member, alone, joins, membersBelow, piece, Piece}
 use Rattle.disjunction.proofs.RowSets.{sets-equal, size-pos, within-member, within-add, add-within, member-table, alone-long, alone-here, alone-within}
 use Rattle.disjunction.proofs.RowTests.{member-iff, joins-iff}
 use Rattle.disjunction.proofs.Ways.{way-mono, cross, alone-connected, connected-add}
-use Rattle.disjunction.proofs.Growing.{New, Settled, grown}
+use Rattle.disjunction.proofs.Growing.{New, grown}
 
 module _ (W : Tables) where
   -- ---- the list of D's rows
@@ -81,27 +81,27 @@ module _ (W : Tables) where
 
   -- ---- the piece
 
+  -- A row of D's list that joins a part is new to it, and the part stays one with it.
+  part-new : (D : List ℕ) (s : Place) (E : List ℕ) (p : Place) → Part D s E → List·Memᴰ p (membersBelow W D (W .n)) → joins W E p ≡ true → New (W .n) E p
+  part-new D s E p h m t =
+      let (u, b, n, q) = members-in D (W .n) p m in
+      let low : at D u ≡ p .row = ap (λ (x : Place). x .row) (sym q) in
+      (joins-iff W E p (h .long) .0 t .absent, omega (arith, ap (λ (x : Place). x .table) q), omega arith)
+
+  part-keeps : Symmetric W → (D : List ℕ) (s : Place) (E : List ℕ) (p : Place) → Part D s E → List·Memᴰ p (membersBelow W D (W .n)) → joins W E p ≡ true
+      → Part D s (addRow E p)
+  part-keeps S D s E p h m t =
+      let (u, b, n, q) = members-in D (W .n) p m in
+      subst (λ (x : Place). Part D s (addRow E x)) (sym q) (part-step S D s E u h b (subst (λ (x : Place). joins W E x ≡ true) q t))
+
   pub pieces : Symmetric W → (D : List ℕ) (s : Place) → length D ≡ W .n → s .table < W .n → 0 < s .row → at D (s .table) ≡ s .row
       → Piece W D s (piece W D s)
   unfolding piece
-  pieces S D s l k r e = part-closed D s (piece W D s) l (f .kept) (λ u b m. f .none (rowIn D u) (members-all D (W .n) u b m))
-    where
-      new : (E : List ℕ) (p : Place) → Part D s E → List·Memᴰ p (membersBelow W D (W .n)) → joins W E p ≡ true → New (W .n) E p
-      new E p h m t =
-          let (u, b, n, q) = members-in D (W .n) p m in
-          let low : at D u ≡ p .row = ap (λ (x : Place). x .row) (sym q) in
-          (joins-iff W E p (h .long) .0 t .absent, omega (arith, ap (λ (x : Place). x .table) q), omega arith)
-
-      keep : (E : List ℕ) (p : Place) → Part D s E → List·Memᴰ p (membersBelow W D (W .n)) → joins W E p ≡ true → Part D s (addRow E p)
-      keep E p h m t =
-          let (u, b, n, q) = members-in D (W .n) p m in
-          subst (λ (x : Place). Part D s (addRow E x)) (sym q) (part-step S D s E u h b (subst (λ (x : Place). joins W E x ≡ true) q t))
-
-      a : Part D s (alone W s)
-      a = part-alone D s k r e
-
-      f : Settled (joins W) (membersBelow W D (W .n)) (Part D s) (W .n) (alone W s) (grow (joins W) (membersBelow W D (W .n)) (W .n) (alone W s))
-      f = grown (joins W) (membersBelow W D (W .n)) (W .n) (Part D s) (λ E h. h .long) new keep (W .n) (alone W s) a (omega (arith, size-pos (alone W s) (s .table) (a .has)))
+  pieces S D s l k r e =
+      let a = part-alone D s k r e in
+      let f = grown (joins W) (membersBelow W D (W .n)) (W .n) (Part D s) (λ E h. h .long) (part-new D s) (part-keeps S D s) (W .n) (alone W s) a
+      (omega (arith, size-pos (alone W s) (s .table) (a .has))) in
+      part-closed D s (piece W D s) l (f .kept) (λ u b m. f .none (rowIn D u) (members-all D (W .n) u b m))
 
   -- A piece is within every other: its tables are those to which D has a way from s.
   piece-within : (D : List ℕ) (s : Place) (E F : List ℕ) → Piece W D s E → Piece W D s F → Within E F

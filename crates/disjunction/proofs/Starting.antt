@@ -19,7 +19,7 @@ use Rattle.disjunction.specs.Sets.{Tables, Symmetric, at, Member, Within
 use Rattle.disjunction.specs.Rule.{Place, stays, dropped, Piece, start}
 use Rattle.disjunction.proofs.RowSets.{within-member, member-table}
 use Rattle.disjunction.proofs.Ways.{way-mono}
-use Rattle.disjunction.proofs.Extending.{Taken, taken-consistent}
+use Rattle.disjunction.proofs.Extending.{Drawn, drawn-consistent}
 use Rattle.disjunction.proofs.Pieces.{pieces}
 
 module _ (W : Tables) where
@@ -54,14 +54,14 @@ module _ (W : Tables) where
       go (no d) = rw (ne-eqb u (s .table) d) (dropped-other T s u l d)
 
   -- A row of what is left is s, or a row of T that is consistent with s.
-  dropped-cases : (T : List ℕ) (s : Place) (u : ℕ) → s .table < W .n → Member (dropped W T s) u → Taken W T s (dropped W T s) u
+  dropped-cases : (T : List ℕ) (s : Place) (u : ℕ) → s .table < W .n → Member (dropped W T s) u → Drawn W T s (dropped W T s) u
   dropped-cases T s u l m = go (ℕ-discrete u (s .table)) (which (W .fits u (at T u) (s .table) (s .row)))
     where
       b : u < W .n
       b = member-table W (dropped W T s) (dropped-long T s) u m
 
       go : Dec (u ≡ s .table) → (W .fits u (at T u) (s .table) (s .row) ≡ true) ⊎ (W .fits u (at T u) (s .table) (s .row) ≡ false)
-          → Taken W T s (dropped W T s) u
+          → Drawn W T s (dropped W T s) u
       go (yes e) f = inl (e, rw e (dropped-here T s l))
       go (no d) (inl f) = inr (dropped-other T s u b d ∙ rw f, f)
       go (no d) (inr f) = let z : at (dropped W T s) u ≡ 0 = dropped-other T s u b d ∙ rw f in absurd (omega arith)
@@ -85,7 +85,7 @@ module _ (W : Tables) where
     unfolding start
     start-piece r = pieces W S (dropped W T s) s (dropped-long T s) (r .table) (r .low) (dropped-here T s (r .table))
 
-    pub start-cases : Row W (s .table) (s .row) → (u : ℕ) → Member (start W T s) u → Taken W T s (start W T s) u
+    pub start-cases : Row W (s .table) (s .row) → (u : ℕ) → Member (start W T s) u → Drawn W T s (start W T s) u
     start-cases r u m =
         let e : at (dropped W T s) u ≡ at (start W T s) u = start-piece r .within u m in
         rw e at (dropped-cases T s u (r .table) (rw e m))
@@ -103,7 +103,7 @@ module _ (W : Tables) where
         record {
           valid = start-valid v r;
           some = (s .table, start-piece r .has);
-          consistent = taken-consistent W S T s (start W T s) c (start-cases r);
+          consistent = drawn-consistent W S T s (start W T s) c (start-cases r);
           connected = start-piece r .connected;
         }
 

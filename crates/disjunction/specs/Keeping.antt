@@ -38,7 +38,7 @@ module _ {A : Type 0} where
   stored {l} {x} (yes m) = l
   stored {l} {x} (no h) = l ++ (x ∷ [])
 
--- "Search. If absent, the key becomes the next record."
+-- "Search. If absent, the key becomes the next record .."
 unfoldable pub keep : List (List ℕ) → List ℕ → List (List ℕ)
 keep l T = stored {l = l} {x = T} (decMemᴰ sets-discrete T l)
 
@@ -48,15 +48,15 @@ pub record State : Type 0 where
   pub taken : ℕ
   pub next : ℕ
 
--- "Hand out record `taken`, raise taken, set next row to 0."
+-- "Hand out record `taken` .., raise taken, set next row to 0 .."
 unfoldable pub take : State → State
 take q = record { sets = q .sets; taken = q .taken + 1; next = 0 }
 
 module _ (W : Tables) where
-  -- "The trial of the row at place next row on the set in record taken - 1."
+  -- "The trial of the row at place next row .. on the set in record taken - 1."
   abbrev pub trialNow : State → Grown
   trialNow q = trial W (getD (q .sets) (q .taken - 1) []) (rowAt W (q .next))
 
-  -- "Do the trial, and raise next row."
+  -- "Do the trial .., and raise next row."
   unfoldable pub try : State → State
   try q = record { sets = keep (q .sets) (trialNow q .rows); taken = q .taken; next = q .next + 1 }

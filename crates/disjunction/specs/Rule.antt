@@ -40,7 +40,7 @@ module _ (W : Tables) where
   abbrev pub rows : List Place
   rows = rowsBelow (W .n)
 
-  -- "The row at place (row order, from 0)."
+  -- "The row at place next row (row order, from 0)."
   abbrev pub rowAt : ℕ → Place
   rowAt j = getD rows j (record { table = 0; row = 0 })
 

@@ -16,12 +16,12 @@ pub record Tables : Type 0 where
   pub touches : ℕ → ℕ → Bool
   pub fits : ℕ → ℕ → ℕ → ℕ → Bool
 
--- "The undirected graph": touching has no direction, and neither has being consistent.
+-- "The scheme graph is the undirected graph ..": touching has no direction, and neither has being consistent.
 pub record Symmetric (W : Tables) : Type 0 where
   pub touch : (t u : ℕ) → W .touches t u ≡ W .touches u t
   pub fit : (t r u q : ℕ) → W .fits t r u q ≡ W .fits u q t r
 
--- "A tuple set of R is any set of tuples consisting of at most one tuple from each relation": a list with the row number of table t at place t, 0
+-- "A tuple set of R is any set of tuples .. consisting of at most one tuple from each relation": a list with the row number of table t at place t, 0
 -- where t has no row in it. Past the list's end it is 0 too.
 abbrev pub at : List ℕ → ℕ → ℕ
 at T t = getD T t 0
@@ -52,7 +52,7 @@ module _ (W : Tables) where
     pub long : length T ≡ W .n
     pub bound : (t : ℕ) → at T t ≤ W .count t
 
-  -- A way from table a to table b through tables of T's rows, each touching the next.
+  -- A way from table a to table b through tables of T's rows, each touching the next. (That a table touches itself leads it nowhere new.)
   pub data Way (T : List ℕ) : ℕ → ℕ → Type 0 where
     here : {a : ℕ} → Member T a → Way T a a
     step : {a b c : ℕ} → Member T a → W .touches a b ≡ true → Way T b c → Way T a c
