@@ -1,6 +1,6 @@
 -- Whole examples, computed by the definitions: document 01's input of 25 bytes with its row tests, the four joins that go astray there, and document
 -- 000's Example 2.3. That the sets found are all the maximal ones is `drained-all`. Assumes nothing.
-use Prim.Native.Nat.{ℕ, _-_}
+use Prim.Native.Nat.{ℕ, _+_, _-_}
 use native.Mathlib.Omega.{arith}
 use native.Mathlib.Decide.{ℕ-discrete}
 use mathlib.Core.Path.{_≡_, refl}
@@ -14,9 +14,9 @@ use Rattle.laws.specs.Lists.{tab}
 use Rattle.disjunction.specs.Sets.{Maximal}
 use Rattle.disjunction.specs.Rule.{rowsTo, rowsBelow, rows, rowAt, member, absent, near, agrees, rowTest, walk, grow, extension, stays, dropped, alone, joins, membersBelow, piece, start, trial}
 use Rattle.disjunction.specs.Cells.{Cells, same, sharing, matching, tables, gives, codeBelow, padded}
-use Rattle.disjunction.specs.Keeping.{sameDec, sets-discrete, decMemᴰ, stored, keep, take, try}
+use Rattle.disjunction.specs.Keeping.{sameDec, sets-discrete, decMemᴰ, stored, keep, take, try, listOpen, listMove, listTests, listMoves, testsIn}
 use Rattle.disjunction.proofs.CellLaws.{tables-symmetric}
-use Rattle.disjunction.proofs.Draining.{opened, drainBy, drain, ended, drained-all}
+use Rattle.disjunction.proofs.Draining.{ended, drained-all}
 
 -- Whether a scheme, as a list of attributes, has attribute a; and the code of a in a row, which lists the codes by the scheme's attributes.
 holds : List ℕ → ℕ → Bool
@@ -66,7 +66,7 @@ twins = cellsOf 2 ((0 ∷ 1 ∷ []) ∷ (0 ∷ 1 ∷ []) ∷ []) (((2 ∷ 0 ∷ 
 early : Cells
 early = cellsOf 3 ((0 ∷ 1 ∷ []) ∷ (0 ∷ 2 ∷ []) ∷ (1 ∷ 2 ∷ []) ∷ []) (((2 ∷ 6 ∷ []) ∷ []) ∷ ((3 ∷ 8 ∷ []) ∷ []) ∷ ((6 ∷ 8 ∷ []) ∷ []) ∷ [])
 
--- Example 2.3: R11 (A B C), R12 (A B D), R13 (A E F), R14 (A E G) of Figure 2.
+-- Example 2.3: R11 (A B C), R12 (A B D), R13 (A E F), R14 (A E G), with the rows that Figures 2 and 3 show.
 four : Cells
 four =
     cellsOf 7 ((0 ∷ 1 ∷ 2 ∷ []) ∷ (0 ∷ 1 ∷ 3 ∷ []) ∷ (0 ∷ 4 ∷ 5 ∷ []) ∷ (0 ∷ 4 ∷ 6 ∷ []) ∷ [])
@@ -98,45 +98,41 @@ three-open : extension (tables three) (alone (tables three) (rowAt (tables three
 unfolding extension grow walk rowTest near agrees absent member rowsBelow rowsTo alone sharing matching same any all three cellsOf holds codeAt
 three-open = refl
 
--- A stream over C, drained in k steps, has found the sets of l in this order, with so many trials and row tests.
-abbrev Lists : Cells → ℕ → List (List ℕ) → ℕ → ℕ → Type 0
-Lists C k l trials tests = drain (tables C) k (opened (tables C)) ≡ ended (tables C) l trials tests
+-- The stream over C is at its end after so many trials, and a step for each set, with so many row tests; it has found the sets of l in this order.
+abbrev Ends : Cells → List (List ℕ) → ℕ → ℕ → Type 0
+Ends C l trials tests =
+    (listMoves (tables C) (trials + length l) (listOpen (tables C)) ≡ ended (tables C) l)
+    × (testsIn (tables C) (trials + length l) (listOpen (tables C)) ≡ tests)
 
 -- "end 3 18 160" is the first's.
-listed : Lists three 30 threeSets 18 160
-    × Lists apart 9 ((1 ∷ 0 ∷ []) ∷ (0 ∷ 1 ∷ []) ∷ []) 4 8
-    × Lists later 9 ((1 ∷ 1 ∷ 1 ∷ []) ∷ []) 3 9
-    × Lists twins 9 ((1 ∷ 0 ∷ []) ∷ (0 ∷ 1 ∷ []) ∷ []) 4 8
-    × Lists early 9 ((1 ∷ 0 ∷ 1 ∷ []) ∷ (0 ∷ 1 ∷ 1 ∷ []) ∷ []) 6 18
-    × Lists four 70 fourSets 54 770
-unfolding drain drainBy opened try take keep stored decMemᴰ sets-discrete sameDec ℕ-discrete trial start piece joins membersBelow dropped stays tab extension grow walk rowTest near agrees absent member rowsBelow rowsTo alone sharing matching same any all three apart later twins early four cellsOf holds codeAt
-listed = (refl, refl, refl, refl, refl, refl)
+drained : Ends three threeSets 18 160
+    × Ends apart ((1 ∷ 0 ∷ []) ∷ (0 ∷ 1 ∷ []) ∷ []) 4 8
+    × Ends later ((1 ∷ 1 ∷ 1 ∷ []) ∷ []) 3 9
+    × Ends twins ((1 ∷ 0 ∷ []) ∷ (0 ∷ 1 ∷ []) ∷ []) 4 8
+    × Ends early ((1 ∷ 0 ∷ 1 ∷ []) ∷ (0 ∷ 1 ∷ 1 ∷ []) ∷ []) 6 18
+    × Ends four fourSets 54 770
+unfolding listMoves listMove listTests testsIn listOpen try take keep stored decMemᴰ sets-discrete sameDec ℕ-discrete trial start piece joins membersBelow dropped stays tab extension grow walk rowTest near agrees absent member rowsBelow rowsTo alone sharing matching same any all three apart later twins early four cellsOf holds codeAt
+drained = ((refl, refl), (refl, refl), (refl, refl), (refl, refl), (refl, refl), (refl, refl))
 
 -- They are all the maximal sets.
 module _ (T : List ℕ) where
   three-sets : Maximal (tables three) T ↔ List·Memᴰ T threeSets
-  unfolding rowsBelow rowsTo three cellsOf
-  three-sets = drained-all (tables three) (tables-symmetric three) 30 threeSets 18 160 (listed .0) (omega arith) (omega arith) T
+  three-sets = drained-all (tables three) (tables-symmetric three) 21 threeSets (drained .0 .0) (omega arith) T
 
   apart-sets : Maximal (tables apart) T ↔ List·Memᴰ T ((1 ∷ 0 ∷ []) ∷ (0 ∷ 1 ∷ []) ∷ [])
-  unfolding rowsBelow rowsTo apart cellsOf
-  apart-sets = drained-all (tables apart) (tables-symmetric apart) 9 ((1 ∷ 0 ∷ []) ∷ (0 ∷ 1 ∷ []) ∷ []) 4 8 (listed .1) (omega arith) (omega arith) T
+  apart-sets = drained-all (tables apart) (tables-symmetric apart) 6 ((1 ∷ 0 ∷ []) ∷ (0 ∷ 1 ∷ []) ∷ []) (drained .1 .0) (omega arith) T
 
   later-sets : Maximal (tables later) T ↔ List·Memᴰ T ((1 ∷ 1 ∷ 1 ∷ []) ∷ [])
-  unfolding rowsBelow rowsTo later cellsOf
-  later-sets = drained-all (tables later) (tables-symmetric later) 9 ((1 ∷ 1 ∷ 1 ∷ []) ∷ []) 3 9 (listed .2) (omega arith) (omega arith) T
+  later-sets = drained-all (tables later) (tables-symmetric later) 4 ((1 ∷ 1 ∷ 1 ∷ []) ∷ []) (drained .2 .0) (omega arith) T
 
   twins-sets : Maximal (tables twins) T ↔ List·Memᴰ T ((1 ∷ 0 ∷ []) ∷ (0 ∷ 1 ∷ []) ∷ [])
-  unfolding rowsBelow rowsTo twins cellsOf
-  twins-sets = drained-all (tables twins) (tables-symmetric twins) 9 ((1 ∷ 0 ∷ []) ∷ (0 ∷ 1 ∷ []) ∷ []) 4 8 (listed .3) (omega arith) (omega arith) T
+  twins-sets = drained-all (tables twins) (tables-symmetric twins) 6 ((1 ∷ 0 ∷ []) ∷ (0 ∷ 1 ∷ []) ∷ []) (drained .3 .0) (omega arith) T
 
   early-sets : Maximal (tables early) T ↔ List·Memᴰ T ((1 ∷ 0 ∷ 1 ∷ []) ∷ (0 ∷ 1 ∷ 1 ∷ []) ∷ [])
-  unfolding rowsBelow rowsTo early cellsOf
-  early-sets = drained-all (tables early) (tables-symmetric early) 9 ((1 ∷ 0 ∷ 1 ∷ []) ∷ (0 ∷ 1 ∷ 1 ∷ []) ∷ []) 6 18 (listed .4) (omega arith) (omega arith) T
+  early-sets = drained-all (tables early) (tables-symmetric early) 8 ((1 ∷ 0 ∷ 1 ∷ []) ∷ (0 ∷ 1 ∷ 1 ∷ []) ∷ []) (drained .4 .0) (omega arith) T
 
   four-sets : Maximal (tables four) T ↔ List·Memᴰ T fourSets
-  unfolding rowsBelow rowsTo four cellsOf
-  four-sets = drained-all (tables four) (tables-symmetric four) 70 fourSets 54 770 (listed .5) (omega arith) (omega arith) T
+  four-sets = drained-all (tables four) (tables-symmetric four) 60 fourSets (drained .5 .0) (omega arith) T
 
 -- ---- their padded rows
 
