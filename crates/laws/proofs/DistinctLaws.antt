@@ -4,7 +4,7 @@ use native.Mathlib.Omega.{arith}
 use native.Mathlib.Nat.{le-antisymm}
 use mathlib.Core.Path.{_≡_, refl, sym, ap, subst, _∙_}
 use mathlib.Core.Logic.{_≢_, _⊎_, inl, inr, ⊎-elim, _↔_}
-use mathlib.Core.List.{List, [], _∷_, _++_, List·Memᴰ, List·Memᴰ·head, List·Memᴰ·tail, List·Memᴰ·cases-cons, List·Memᴰ·not-nil, Memᴰ·cast}
+use mathlib.Core.List.{List, [], _∷_, _++_, List·Memᴰ, List·Memᴰ·head, List·Memᴰ·tail, List·Memᴰ·cases-cons, List·Memᴰ·not-nil, List·Memᴰ·append-cases, List·Memᴰ·eq-of-singleton, Memᴰ·cast}
 use lib.ListN.{length}
 use Rattle.laws.specs.Distinct.{Distinct, none, more}
 
@@ -32,3 +32,11 @@ module _ {A : Type 0} where
 
   pub same-length : (P : A → Type 0) (k l : List A) → Distinct k → Distinct l → ((x : A) → P x ↔ List·Memᴰ x k) → ((x : A) → P x ↔ List·Memᴰ x l) → length k ≡ length l
   same-length P k l d e f g = le-antisymm (distinct-le k l d (λ x m. g x .0 (f x .1 m))) (distinct-le l k e (λ x m. f x .0 (g x .1 m)))
+
+  -- With a new element at the end.
+  pub distinct-end : {l : List A} {x : A} → Distinct l → (List·Memᴰ x l → ⊥) → Distinct (l ++ (x ∷ []))
+  distinct-end none h = more List·Memᴰ·not-nil none
+  distinct-end {x} (more {x = y} {l = l} g d) h =
+      more
+      (λ k. ⊎-elim (λ a. g a) (λ a. h (List·Memᴰ·head (sym (List·Memᴰ·eq-of-singleton a)))) (List·Memᴰ·append-cases l k))
+      (distinct-end d (λ k. h (List·Memᴰ·tail k)))

@@ -14,6 +14,14 @@ which false = inr refl
 pub clash : {b : Bool} → b ≡ true → b ≡ false → ⊥
 clash p q = true≢false (sym p ∙ q)
 
+-- A test that never says yes says no; two tests that say yes together are one.
+pub not-yes : (b : Bool) → (b ≡ true → ⊥) → b ≡ false
+not-yes b h = ⊎-elim (λ e. absurd (h e)) (λ e. e) (which b)
+
+pub iff-eq : (a b : Bool) → (a ≡ true → b ≡ true) → (b ≡ true → a ≡ true) → a ≡ b
+iff-eq true b f g = sym (f refl)
+iff-eq false b f g = sym (not-yes b (λ e. clash (g e) refl))
+
 pub and-split : (a b : Bool) → (a && b) ≡ true → (a ≡ true) × (b ≡ true)
 and-split true b h = (refl, h)
 and-split false b h = absurd (true≢false (sym h))
@@ -58,3 +66,19 @@ pub all-of : (k : ℕ) (p : ℕ → Bool) → ((u : ℕ) → u < k → p u ≡ t
 unfolding all
 all-of zero p h = refl
 all-of (suc k) p h = and-join (h k (omega arith)) (all-of k p (λ u l. h u (omega arith)))
+
+pub any-none : (k : ℕ) (p : ℕ → Bool) → ((u : ℕ) → u < k → p u ≡ false) → any k p ≡ false
+any-none k p n = not-yes (any k p) (λ e. let (u, l, y) = any-some k p e in clash y (n u l))
+
+-- The lowest number below k that passes, or none does.
+abbrev pub FirstBelow : ℕ → (ℕ → Bool) → Type 0
+FirstBelow k p = ((t : ℕ) × (t < k) × (p t ≡ true) × ((u : ℕ) → u < t → p u ≡ false)) ⊎ ((u : ℕ) → u < k → p u ≡ false)
+
+pub first-below : (k : ℕ) (p : ℕ → Bool) → FirstBelow k p
+first-below zero p = inr (λ u l. absurd (not-suc-le-zero l))
+first-below (suc k) p = go (first-below k p) (which (p k))
+  where
+    go : FirstBelow k p → (p k ≡ true) ⊎ (p k ≡ false) → FirstBelow (suc k) p
+    go (inl (t, l, y, n)) b = inl (t, omega arith, y, n)
+    go (inr n) (inl y) = inl (k, omega arith, y, n)
+    go (inr n) (inr f) = inr (λ u l. ⊎-elim (λ e. rw e f) (λ q. n u q) (below-suc l))

@@ -1,0 +1,13 @@
+pub mod RowSets
+pub mod RowTests
+pub mod RowOrder
+pub mod Ways
+pub mod Growing
+pub mod Extending
+pub mod Pieces
+pub mod Starting
+pub mod Completeness
+pub mod CellLaws
+pub mod KeepingLaws
+pub mod Draining
+pub mod Sample

@@ -1,0 +1,4 @@
+pub mod Sets
+pub mod Rule
+pub mod Cells
+pub mod Keeping
