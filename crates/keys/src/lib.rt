@@ -1,7 +1,7 @@
 // A row set as one word, its key: the row number of each table in bits of its own, table 0 lowest.
 // The bits of a key, by which a search turns, are those of crate words.
 ghost use mathlib.Core.Path.{_≡_};
-ghost use Prim.Native.Nat.{_<_, _^_};
+ghost use Prim.Native.Nat.{_*_, _<_, _≤_, _^_};
 ghost use Rattle.keys.specs.Keys.{bitsPerRow, mostTables, rowOf, withRow};
 
 // How many bits of a key a table has, and the word with all of them set.
@@ -26,4 +26,13 @@ pub fn with_row(key: u64, t: usize, r: u64) -> u64
 {
     let place = BITS_PER_ROW * t;
     (key & !(ROW_MASK << place)) | (r << place)
+}
+
+// How many bits the key of a set among n tables has.
+// They tell any two such keys apart, so a search for one never has to go deeper.
+pub fn key_bits(n: usize) -> usize
+    requires { ⌜ n ≤ mostTables ⌝ }
+    ensures { λ d. ⌜ d ≡ bitsPerRow * n ⌝ }
+{
+    BITS_PER_ROW * n
 }
