@@ -86,14 +86,12 @@ pub fn find(
     let mut p: usize = 0;
     let mut d: usize = 0;
     loop {
+        let looks = d + 1;
         if is_key(keys, p, sought) {
-            return Looked::Found {
-                place: p,
-                looks: d + 1,
-            };
+            return Looked::Found { place: p, looks };
         }
         if d == deepest {
-            return Looked::Damaged { looks: d + 1 };
+            return Looked::Damaged { looks };
         }
         let side = words::bit_of(sought, d);
         let link = link_of(left, right, p, side);
@@ -101,11 +99,11 @@ pub fn find(
             return Looked::Absent {
                 place: p,
                 side,
-                looks: d + 1,
+                looks,
             };
         }
         if found < link {
-            return Looked::Damaged { looks: d + 1 };
+            return Looked::Damaged { looks };
         }
         p = link - 1;
         d += 1;

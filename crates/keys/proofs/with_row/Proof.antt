@@ -8,15 +8,6 @@ use Rattle.keys.proofs.KeyLaws.{replaced}
 use Rattle.keys.proofs.with_row.Statement.{statement}
 use Rattle.keys.proofs.with_row.Tie as tie
 
-mul-place : tie.Need-mul-place
-mul-place c = search needs
-
-shl-result : tie.Need-shl-result
-shl-result c = search needs
-
-shl-result-2 : tie.Need-shl-result-2
-shl-result-2 c = search needs
-
 returns : tie.Need-returns
 returns c =
     let w = bitsPerRow in
@@ -25,4 +16,4 @@ returns c =
     replaced 64 above w (c .args .key) (c .args .t) (c .args .r) e (c .fits .key .fits) (c .pre .1)
 
 pub with-row-spec : {M : Type 1} → statement M
-with-row-spec = tie.close (tie.spec mul-place shl-result shl-result-2 returns)
+with-row-spec = tie.close (tie.spec (λ c. search needs) (λ c. search needs) (λ c. search needs) returns)

@@ -61,32 +61,14 @@ loop-holds : tie.Need-loop-holds Inv-loop μ-loop
 unfolding searchOf
 loop-holds c = (search needs, search needs, rw sub-zero)
 
-is-key-requires : tie.Need-is-key-requires Inv-loop μ-loop
-is-key-requires c κs = search needs
-
-add-t12 : tie.Need-add-t12 Inv-loop μ-loop
-add-t12 c = search needs
-
 returns : tie.Need-returns Inv-loop μ-loop
 returns c = let a = c .before .before in sym (a .loop .inv .2 ∙ walk-hit _ _ _ _ _ _ _ (sym (c .before .is-key .ensures) ∙ c .if1 .taken))
-
-add-t14 : tie.Need-add-t14 Inv-loop μ-loop
-add-t14 c = search needs
 
 returns-2 : tie.Need-returns-2 Inv-loop μ-loop
 returns-2 c =
     let a = c .before .before .before in
     let z : deepest a - a .loop .d ≡ 0 = omega arith in
     sym (a .loop .inv .2 ∙ walk-last _ _ _ _ _ _ _ z (missed (c .before)))
-
-bit-of-requires : tie.Need-bit-of-requires Inv-loop μ-loop
-bit-of-requires c κs = search needs
-
-link-of-requires : tie.Need-link-of-requires Inv-loop μ-loop
-link-of-requires c κs = search needs
-
-add-t15 : tie.Need-add-t15 Inv-loop μ-loop
-add-t15 c = search needs
 
 returns-3 : tie.Need-returns-3 Inv-loop μ-loop
 returns-3 c =
@@ -97,9 +79,6 @@ returns-3 c =
     ap (λ (s : Bool). Absent (a .loop .p) s (a .loop .d + 1)) (l .before .bit-of .ensures)
     ∙ sym (a .loop .inv .2 ∙ walk-absent _ _ _ _ _ _ _ (bits-left t) (missed (t .before)) z)
 
-add-t16 : tie.Need-add-t16 Inv-loop μ-loop
-add-t16 c = search needs
-
 returns-4 : tie.Need-returns-4 Inv-loop μ-loop
 returns-4 c =
     let l = c .before .before in
@@ -108,15 +87,6 @@ returns-4 c =
     sym
     (a .loop .inv .2
     ∙ walk-past _ _ _ _ _ _ _ (bits-left t) (missed (t .before)) (λ e. c .before .if3 .left (linked l ∙ e)) (rw (linked l) at (c .if4 .taken)))
-
-sub-p : tie.Need-sub-p Inv-loop μ-loop
-sub-p c = search needs
-
-add-d : tie.Need-add-d Inv-loop μ-loop
-add-d c = search needs
-
-loop-less : tie.Need-loop-less Inv-loop μ-loop
-loop-less c = search needs
 
 loop-again : tie.Need-loop-again Inv-loop μ-loop
 loop-again c =
@@ -137,18 +107,15 @@ find-spec =
     Inv-loop
     μ-loop
     loop-holds
-    is-key-requires
-    add-t12
+    (λ c. search needs)
+    (λ c κs. search needs)
     returns
-    add-t14
     returns-2
-    bit-of-requires
-    link-of-requires
-    add-t15
+    (λ c κs. search needs)
+    (λ c κs. search needs)
     returns-3
-    add-t16
     returns-4
-    sub-p
-    add-d
-    loop-less
+    (λ c. search needs)
+    (λ c. search needs)
+    (λ c. search needs)
     loop-again)

@@ -23,21 +23,6 @@ absent : (k : tie.After-known-told2)
     ≡ searchOf (store (entry k)) (entry k .args .sought) (entry k .args .deepest)
 absent k = sym (k .before .looked2 .given .1) ∙ k .before .before .before .find .ensures
 
-find-requires : tie.Need-find-requires
-find-requires c κs = search needs
-
-enum-known-looked : tie.Need-enum-known-looked
-enum-known-looked c = search needs
-
-enum-told : tie.Need-enum-told
-enum-told c = search needs
-
-enum-known-looked-2 : tie.Need-enum-known-looked-2
-enum-known-looked-2 c = search needs
-
-room-requires : tie.Need-room-requires
-room-requires c κs = search needs
-
 add-requires : tie.Need-add-requires
 add-requires c κs =
     let t = c .before .before .before in
@@ -46,44 +31,17 @@ add-requires c κs =
     let h = rw (t .before .room .ensures) at (t .if1 .taken) in
     (h, placed (store z) (z .args .sought) (z .args .deepest) (z .pre .0) (absent k))
 
-same-length : tie.Need-same-length
-same-length c = search needs
-
-same-length-2 : tie.Need-same-length-2
-same-length-2 c = search needs
-
-same-length-3 : tie.Need-same-length-3
-same-length-3 c = search needs
-
 returns : tie.Need-returns
 unfolding answerOf storeAfter
 returns c =
     let e = sym (c .before .looked .given .1) ∙ c .before .before .before .find .ensures in
     record { answer = rw (← e); after = rw (← e) (record { keys = refl; left = refl; right = refl }) }
 
-same-length-4 : tie.Need-same-length-4
-same-length-4 c = search needs
-
-same-length-5 : tie.Need-same-length-5
-same-length-5 c = search needs
-
-same-length-6 : tie.Need-same-length-6
-same-length-6 c = search needs
-
 returns-2 : tie.Need-returns-2
 unfolding answerOf storeAfter
 returns-2 c =
     let e = sym (c .enum-told .given .1) ∙ c .before .before .find .ensures in
     record { answer = rw (← e); after = rw (← e) (record { keys = refl; left = refl; right = refl }) }
-
-same-length-7 : tie.Need-same-length-7
-same-length-7 c = search needs
-
-same-length-8 : tie.Need-same-length-8
-same-length-8 c = search needs
-
-same-length-9 : tie.Need-same-length-9
-same-length-9 c = search needs
 
 returns-3 : tie.Need-returns-3
 unfolding answerOf storeAfter
@@ -93,15 +51,6 @@ returns-3 c =
     let e = absent (t .before .before .before .before .before) in
     let h = rw (t .before .room .ensures) at (t .if1 .taken) in
     record { answer = rw (← e, lt-ltb _ _ h); after = rw (← e, lt-ltb _ _ h) (i .add .ensures) }
-
-same-length-10 : tie.Need-same-length-10
-same-length-10 c = search needs
-
-same-length-11 : tie.Need-same-length-11
-same-length-11 c = search needs
-
-same-length-12 : tie.Need-same-length-12
-same-length-12 c = search needs
 
 returns-4 : tie.Need-returns-4
 unfolding answerOf storeAfter
@@ -114,25 +63,25 @@ pub offer-spec : {M : Type 1} → statement M
 offer-spec =
     tie.close
     (tie.spec
-    find-requires
-    enum-known-looked
-    enum-told
-    enum-known-looked-2
-    room-requires
+    (λ c κs. search needs)
+    (λ c. search needs)
+    (λ c. search needs)
+    (λ c. search needs)
+    (λ c κs. search needs)
     add-requires
-    same-length
-    same-length-2
-    same-length-3
+    (λ c. search needs)
+    (λ c. search needs)
+    (λ c. search needs)
     returns
-    same-length-4
-    same-length-5
-    same-length-6
+    (λ c. search needs)
+    (λ c. search needs)
+    (λ c. search needs)
     returns-2
-    same-length-7
-    same-length-8
-    same-length-9
+    (λ c. search needs)
+    (λ c. search needs)
+    (λ c. search needs)
     returns-3
-    same-length-10
-    same-length-11
-    same-length-12
+    (λ c. search needs)
+    (λ c. search needs)
+    (λ c. search needs)
     returns-4)

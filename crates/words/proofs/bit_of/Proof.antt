@@ -8,12 +8,9 @@ use Rattle.words.specs.Words.{bitOf}
 use Rattle.words.proofs.bit_of.Statement.{statement}
 use Rattle.words.proofs.bit_of.Tie as tie
 
-shr-result : tie.Need-shr-result
-shr-result c = search needs
-
 returns : tie.Need-returns
 unfolding bitOf
 returns c = ap (λ (x : ℕ). eqb x 1) (and-mask (c .args .word / 2 ^ c .args .d) 1)
 
 pub bit-of-spec : {M : Type 1} → statement M
-bit-of-spec = tie.close (tie.spec shr-result returns)
+bit-of-spec = tie.close (tie.spec (λ c. search needs) returns)

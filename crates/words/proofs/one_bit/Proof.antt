@@ -6,11 +6,8 @@ use borrow.Author.Needs.{needs}
 use Rattle.words.proofs.one_bit.Statement.{statement}
 use Rattle.words.proofs.one_bit.Tie as tie
 
-shl-result : tie.Need-shl-result
-shl-result c = search needs
-
 returns : tie.Need-returns
 returns c = shl-exact 1 (c .args .a) 64 (omega arith) (omega arith) ∙ omega arith
 
 pub one-bit-spec : {M : Type 1} → statement M
-one-bit-spec = tie.close (tie.spec shl-result returns)
+one-bit-spec = tie.close (tie.spec (λ c. search needs) returns)
