@@ -1,0 +1,173 @@
+// The store of a stream: the keys of the sets found so far, in a tree that the bits of a sought key steer through.
+// It lies in three slices that the caller lends: keys, left links and right links.
+ghost use mathlib.Core.Path.{_≡_};
+ghost use Prim.Native.Nat.{_<_, _≤_, min};
+ghost use lib.Dec.{eqb};
+ghost use lib.ListN.{length, getD};
+ghost use Rattle.store.specs.Store.{storeIn, roomOf, linkOf, searchOf, filed, added, Holds, OfferPost};
+
+// What a search comes to, with the looks that it made.
+// Absent names the record and the side whose empty link ended it, so that the sought key can be added there.
+pub enum Looked {
+    Found {
+        place: usize,
+        looks: usize,
+    },
+    Absent {
+        place: usize,
+        side: bool,
+        looks: usize,
+    },
+    Damaged {
+        looks: usize,
+    },
+}
+
+// What an offer of a key comes to: it was there, it was added, or refusal 12 (Full) or 14 (Broken).
+// A refused offer writes nothing and counts no looks.
+pub enum Placed {
+    Known { looks: usize },
+    Added { looks: usize },
+    Full,
+    Broken,
+}
+
+// The smaller of two numbers.
+// The shortest slice is found by it.
+fn least(a: usize, b: usize) -> usize
+    ensures { λ r. ⌜ r ≡ min a b ⌝ }
+{
+    if a < b { a } else { b }
+}
+
+// How many records the store has room for: the shortest slice counts, and a link has to fit its 16 bits.
+// Every caller asks it before a record is written.
+pub fn room(keys: &[u64], left: &[u16], right: &[u16]) -> usize
+    ensures { λ r. ⌜ r ≡ roomOf (length (now (keys .entry))) (length (now (left .entry))) (length (now (right .entry))) ⌝ }
+{
+    least(least(least(65535, keys.len()), left.len()), right.len())
+}
+
+// Is the sought key that of record p?
+// The only place of a search that knows how a key lies in the store.
+pub fn is_key(keys: &[u64], p: usize, sought: u64) -> bool
+    requires { ⌜ p < length (now keys) ⌝ }
+    ensures { λ r. ⌜ r ≡ eqb (getD (now (keys .entry)) p 0) sought ⌝ }
+{
+    keys[p] == sought
+}
+
+// The link of record p on a side, which is right where it is true.
+// As a number of its own, for a link is a place plus 1.
+pub fn link_of(left: &[u16], right: &[u16], p: usize, side: bool) -> usize
+    requires { ⌜ (p < length (now left)) × (p < length (now right)) ⌝ }
+    ensures { λ r. ⌜ r ≡ linkOf (now (left .entry)) (now (right .entry)) side p ⌝ }
+{
+    if side {
+        right[p] as usize
+    } else {
+        left[p] as usize
+    }
+}
+
+// Looks for a key from record 0 on, at most down to the depth `deepest`, where no bit is left to turn by.
+// Any numbers may lie in the slices: no search of a damaged store goes astray or on forever.
+pub fn find(
+    keys: &[u64],
+    left: &[u16],
+    right: &[u16],
+    found: usize,
+    sought: u64,
+    deepest: usize,
+) -> Looked
+    requires { ⌜ (0 < found) × (found ≤ roomOf (length (now keys)) (length (now left)) (length (now right))) × (deepest ≤ 64) ⌝ }
+    ensures { λ r. ⌜ r ≡ searchOf (storeIn (now (keys .entry)) (now (left .entry)) (now (right .entry)) found) sought deepest ⌝ }
+{
+    let mut p: usize = 0;
+    let mut d: usize = 0;
+    loop {
+        let looks = d + 1;
+        if is_key(keys, p, sought) {
+            return Looked::Found { place: p, looks };
+        }
+        if d == deepest {
+            return Looked::Damaged { looks };
+        }
+        let side = words::bit_of(sought, d);
+        let link = link_of(left, right, p, side);
+        if link == 0 {
+            return Looked::Absent {
+                place: p,
+                side,
+                looks,
+            };
+        }
+        if found < link {
+            return Looked::Damaged { looks };
+        }
+        p = link - 1;
+        d += 1;
+    }
+}
+
+// Writes a key as record `at`, with both links 0.
+// The first record of a store is this alone; each later one is named by a link besides.
+pub fn file_record(keys: &mut [u64], left: &mut [u16], right: &mut [u16], at: usize, key: u64)
+    requires { ⌜ at < roomOf (length (now keys)) (length (now left)) (length (now right)) ⌝ }
+    ensures { λ _. ⌜ Holds (now (keys .exit)) (now (left .exit)) (now (right .exit)) (filed (storeIn (now (keys .entry)) (now (left .entry)) (now (right .entry)) at) key) ⌝ }
+{
+    keys[at] = key;
+    left[at] = 0;
+    right[at] = 0;
+}
+
+// Writes a key as the next record, and into the empty link that ended its search the record's place plus 1.
+// The caller has asked that a record is free.
+pub fn add(
+    keys: &mut [u64],
+    left: &mut [u16],
+    right: &mut [u16],
+    found: usize,
+    key: u64,
+    place: usize,
+    side: bool,
+)
+    requires { ⌜ (found < roomOf (length (now keys)) (length (now left)) (length (now right))) × (place < found) ⌝ }
+    ensures { λ _. ⌜ Holds (now (keys .exit)) (now (left .exit)) (now (right .exit)) (added (storeIn (now (keys .entry)) (now (left .entry)) (now (right .entry)) found) key place side) ⌝ }
+{
+    file_record(keys, left, right, found, key);
+    let link = (found + 1) as u16;
+    if side {
+        right[place] = link;
+    } else {
+        left[place] = link;
+    }
+}
+
+// Searches for a key, and adds it where it is absent and a record is free.
+// This is the end of a trial: what the trial came to is in the store afterwards, or nothing has changed.
+pub fn offer(
+    keys: &mut [u64],
+    left: &mut [u16],
+    right: &mut [u16],
+    found: usize,
+    sought: u64,
+    deepest: usize,
+) -> Placed
+    requires { ⌜ (0 < found) × (found ≤ roomOf (length (now keys)) (length (now left)) (length (now right))) × (deepest ≤ 64) ⌝ }
+    ensures { λ r. ⌜ OfferPost (storeIn (now (keys .entry)) (now (left .entry)) (now (right .entry)) found) sought deepest r (now (keys .exit)) (now (left .exit)) (now (right .exit)) ⌝ }
+{
+    let looked = find(keys, left, right, found, sought, deepest);
+    match looked {
+        Looked::Found { place: _, looks } => Placed::Known { looks },
+        Looked::Damaged { looks: _ } => Placed::Broken,
+        Looked::Absent { place, side, looks } => {
+            if found < room(keys, left, right) {
+                add(keys, left, right, found, sought, place, side);
+                Placed::Added { looks }
+            } else {
+                Placed::Full
+            }
+        }
+    }
+}
