@@ -2,13 +2,13 @@
 use Prim.Native.Nat.{ℕ, zero, suc, _+_, _-_, _<_, _≤_}
 use native.Mathlib.Nat.{not-suc-le-zero}
 use native.Mathlib.Omega.{arith}
-use native.Mathlib.Numerals.{add-one}
+use native.Mathlib.Numerals.{add-one, sub-one}
 use mathlib.Core.Path.{_≡_, refl, sym, ap, _∙_}
 use mathlib.Core.Logic.{⊎-elim}
 use mathlib.Core.List.{List, [], _∷_, _++_, append-assoc, append-nil}
 use lib.ListN.{length, take, drop, set, getD, length-append, length-drop, take-append-drop, drop-of-length-le, List·getD-append}
-use lib.Seq.{length-take-le, take-all, take-at, drop-at, drop-append-add, drop-drop, drop-cons, take-suc-set, drop-set-lt, getD-at}
-use Rattle.laws.specs.Lists.{put, over, tab}
+use lib.Seq.{length-take-le, take-all, take-at, drop-at, drop-append-add, drop-drop, drop-cons, take-suc-set, drop-set-lt, getD-at, take-add}
+use Rattle.laws.specs.Lists.{put, over, part, tab}
 use Rattle.laws.proofs.TestLaws.{below-suc}
 
 -- ---- the front, one element at a time
@@ -62,3 +62,20 @@ tab-at (suc k) f u l =
     (λ q. rw q (getD-at (tab k f) (f k) [] 0 k (length-tab k f)))
     (λ q. List·getD-append (tab k f) (f k ∷ []) 0 u (rw length-tab q) ∙ tab-at k f u q)
     (below-suc l)
+
+-- ---- a part of a list
+
+pub length-part : (a k : ℕ) (l : List ℕ) → a + k ≤ length l → length (part a k l) ≡ k
+length-part a k l h = length-take-le k (drop a l) (simp length-drop (omega arith))
+
+pub part-none : (a k : ℕ) (l : List ℕ) → k ≤ 0 → part a k l ≡ []
+part-none a zero l z = refl
+part-none a (suc k) l z = absurd (omega arith)
+
+pub part-more : (a k : ℕ) (l : List ℕ) → 0 < k → a < length l → part a k l ≡ getD l a 0 ∷ part (a + 1) (k - 1) l
+part-more a zero l z h = absurd (omega arith)
+part-more a (suc k) l z h = rw (sub-one (suc k), drop-cons l a 0 h, add-one a)
+
+-- j elements, and k behind them
+pub part-append : (a j k : ℕ) (l : List ℕ) → part a (j + k) l ≡ part a j l ++ part (a + j) k l
+part-append a j k l = take-add j k (drop a l) ∙ rw (drop-drop j a l)

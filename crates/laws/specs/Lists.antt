@@ -16,3 +16,7 @@ over a bs o = take a o ++ put bs (drop a o)
 unfoldable pub tab : ℕ → (ℕ → ℕ) → List ℕ
 tab zero f = []
 tab (suc k) f = tab k f ++ (f k ∷ [])
+
+-- k elements of a list, from place a on.
+abbrev pub part : ℕ → ℕ → List ℕ → List ℕ
+part a k l = take k (drop a l)

@@ -10,18 +10,18 @@ use lib.ListN.{length, getD}
 use lib.Dec.{ltb, eqb}
 use borrow.Author.Tests.{lt-ltb, lt-leb, le-leb, eq-eqb}
 use Rattle.numbers.specs.declared.Reading.{Reading}
-use Rattle.numbers.specs.declared.Reading.the-variants.{Number, Refused}
+use Rattle.numbers.specs.declared.Reading.the-variants.{Number, NumberFault}
 use Rattle.numbers.specs.Numbers.{decodeIn}
 
-pub decode-none : (f w v : ℕ) (s : List ℕ) (i : ℕ) → f ≤ 0 → decodeIn f w v s i ≡ Refused 2
+pub decode-none : (f w v : ℕ) (s : List ℕ) (i : ℕ) → f ≤ 0 → decodeIn f w v s i ≡ NumberFault 2
 decode-none zero w v s i p = refl
 decode-none (suc f) w v s i p = absurd (omega arith)
 
-pub decode-end : (f w v : ℕ) (s : List ℕ) (i : ℕ) → 0 < f → length s ≤ i → decodeIn f w v s i ≡ Refused 1
+pub decode-end : (f w v : ℕ) (s : List ℕ) (i : ℕ) → 0 < f → length s ≤ i → decodeIn f w v s i ≡ NumberFault 1
 decode-end zero w v s i p h = absurd (omega arith)
 decode-end (suc f) w v s i p h = rw (le-leb (length s) i h)
 
-pub decode-zero : (f w v : ℕ) (s : List ℕ) (i : ℕ) → 0 < f → i < length s → getD s i 0 < 128 → 1 < w → getD s i 0 ≡ 0 → decodeIn f w v s i ≡ Refused 2
+pub decode-zero : (f w v : ℕ) (s : List ℕ) (i : ℕ) → 0 < f → i < length s → getD s i 0 < 128 → 1 < w → getD s i 0 ≡ 0 → decodeIn f w v s i ≡ NumberFault 2
 decode-zero zero w v s i p h l q e = absurd (omega arith)
 decode-zero (suc f) w v s i p h l q e = rw (lt-leb (length s) i h, lt-leb 128 (getD s i 0) l, lt-ltb 1 w q, eq-eqb (getD s i 0) 0 e)
 

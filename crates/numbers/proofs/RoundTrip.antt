@@ -12,7 +12,7 @@ use lib.Seq.{getD-at, drop-cons}
 use lib.Dec.{ltb, eqb}
 use borrow.Author.Tests.{lt-ltb, le-ltb, eq-eqb, ne-eqb}
 use Rattle.numbers.specs.declared.Reading.{Reading}
-use Rattle.numbers.specs.declared.Reading.the-variants.{Number, Refused}
+use Rattle.numbers.specs.declared.Reading.the-variants.{Number, NumberFault}
 use Rattle.numbers.specs.Numbers.{encodeIn, encode, decodeIn, decode}
 use Rattle.numbers.proofs.EncodeLaws.{more-in, last-in}
 use Rattle.numbers.proofs.DecodeLaws.{decode-none, decode-end, decode-zero, decode-last, decode-more, pos128}
@@ -39,10 +39,10 @@ longer : (f x : ℕ) → 128 ≤ x → x < 128 ^ suc f → 0 < f
 longer zero x h l = omega arith
 longer (suc f) x h l = omega arith
 
-back-in : (f w v x : ℕ) (p r : List ℕ) (i : ℕ) → length p ≡ i → 0 < f → x < 128 ^ f → (1 < w → 0 < x)
+decode-encode-in : (f w v x : ℕ) (p r : List ℕ) (i : ℕ) → length p ≡ i → 0 < f → x < 128 ^ f → (1 < w → 0 < x)
     → decodeIn f w v (p ++ (encodeIn f x ++ r)) i ≡ Number (v + x * w) (i + length (encodeIn f x))
-back-in zero w v x p r i e z h q = absurd (omega arith)
-back-in (suc f) w v x p r i e z h q =
+decode-encode-in zero w v x p r i e z h q = absurd (omega arith)
+decode-encode-in (suc f) w v x p r i e z h q =
     elim (decLt x 128) [
       | yes l ↦
           let g : getD (p ++ (x ∷ r)) i 0 ≡ x = getD-at p x r 0 i e in
@@ -57,7 +57,7 @@ back-in (suc f) w v x p r i e z h q =
           let o : s ≡ (p ++ (b ∷ [])) ++ (t ++ r) = simp append-assoc in
           let k : length (p ++ (b ∷ [])) ≡ i + 1 = length-append p (b ∷ []) ∙ omega arith in
           let u : decodeIn f (w * 128) (v + (b - 128) * w) ((p ++ (b ∷ [])) ++ (t ++ r)) (i + 1) ≡ Number (v + (b - 128) * w + x / 128 * (w * 128)) (i + 1 + length t) =
-          back-in f (w * 128) (v + (b - 128) * w) (x / 128) (p ++ (b ∷ [])) r (i + 1) k (longer f x (omega arith) h) (omega (arith, pow-suc 128 f)) (λ y. omega arith) in
+          decode-encode-in f (w * 128) (v + (b - 128) * w) (x / 128) (p ++ (b ∷ [])) r (i + 1) k (longer f x (omega arith) h) (omega (arith, pow-suc 128 f)) (λ y. omega arith) in
           let m : i + 1 + length t ≡ i + suc (length t) = omega arith in
           rw (more-in f x (omega arith))
           (decode-more (suc f) w v s i z (omega arith) (omega arith)
@@ -65,9 +65,9 @@ back-in (suc f) w v x p r i e z h q =
     ]
 
 -- Reading what was written, wherever it lies.
-pub back : (x : ℕ) (p r : List ℕ) → x < 2 ^ 63 → decode (p ++ (encode x ++ r)) (length p) ≡ Number x (length p + length (encode x))
+pub decode-encode : (x : ℕ) (p r : List ℕ) → x < 2 ^ 63 → decode (p ++ (encode x ++ r)) (length p) ≡ Number x (length p + length (encode x))
 unfolding encode decode
-back x p r h = back-in 9 1 0 x p r (length p) refl (omega arith) h (λ y. omega arith) ∙ ap (λ (t : ℕ). Number t (length p + length (encodeIn 9 x))) (omega arith)
+decode-encode x p r h = decode-encode-in 9 1 0 x p r (length p) refl (omega arith) h (λ y. omega arith) ∙ ap (λ (t : ℕ). Number t (length p + length (encodeIn 9 x))) (omega arith)
 
 -- What a reading of a number says of the bytes.
 pub record Bytes (f w v : ℕ) (s : List ℕ) (i r n : ℕ) : Type 0 where
@@ -78,7 +78,7 @@ pub record Bytes (f w v : ℕ) (s : List ℕ) (i r n : ℕ) : Type 0 where
   pub bytes : drop i s ≡ encodeIn f x ++ drop n s
   pub ended : 1 < w → 0 < x
 
-no-number : {A : Type 0} (o : Reading) (k r n : ℕ) → o ≡ Refused k → o ≡ Number r n → A
+pub no-number : {A : Type 0} (o : Reading) (k r n : ℕ) → o ≡ NumberFault k → o ≡ Number r n → A
 no-number o k r n p q = absurd (let z : _≡_ {A = ℕ} 0 1 = cc in omega arith)
 
 module _ (f w v : ℕ) (s : List ℕ) (i r n : ℕ) (pos : 0 < w) (e : decodeIn (suc f) w v s i ≡ Number r n) (l : i < length s) where
@@ -125,9 +125,9 @@ module _ (f w v : ℕ) (s : List ℕ) (i r n : ℕ) (pos : 0 < w) (e : decodeIn 
         ended = λ z. omega arith;
       }
 
-canonical-in : (f w v : ℕ) (s : List ℕ) (i r n : ℕ) → 0 < w → ((k : ℕ) → getD s k 0 < 256) → decodeIn f w v s i ≡ Number r n → Bytes f w v s i r n
-canonical-in zero w v s i r n pos by e = no-number (decodeIn zero w v s i) 2 r n refl e
-canonical-in (suc f) w v s i r n pos by e =
+encode-decode-in : (f w v : ℕ) (s : List ℕ) (i r n : ℕ) → 0 < w → ((k : ℕ) → getD s k 0 < 256) → decodeIn f w v s i ≡ Number r n → Bytes f w v s i r n
+encode-decode-in zero w v s i r n pos by e = no-number (decodeIn zero w v s i) 2 r n refl e
+encode-decode-in (suc f) w v s i r n pos by e =
     elim (decLt i (length s)) [
       | no l ↦ no-number (decodeIn (suc f) w v s i) 1 r n (decode-end (suc f) w v s i (omega arith) (omega arith)) e
       | yes l ↦ elim (decLt (getD s i 0) 128) [
@@ -135,19 +135,19 @@ canonical-in (suc f) w v s i r n pos by e =
         | no k ↦
             let d = decode-more (suc f) w v s i (omega arith) l (omega arith) in
             more-bytes f w v s i r n pos e l (omega arith) (by i)
-            (canonical-in f (w * 128) (v + (getD s i 0 - 128) * w) s (i + 1) r n (omega arith) by (sym (rw (sub-one (suc f)) at d) ∙ e))
+            (encode-decode-in f (w * 128) (v + (getD s i 0 - 128) * w) s (i + 1) r n (omega arith) by (sym (rw (sub-one (suc f)) at d) ∙ e))
       ]
     ]
 
 -- What was read is what would be written: a number has one form only.
-pub record Canonical (s : List ℕ) (i x n : ℕ) : Type 0 where
+pub record OneForm (s : List ℕ) (i x n : ℕ) : Type 0 where
   pub small : x < 2 ^ 63
   pub next : n ≡ i + length (encode x)
   pub bytes : drop i s ≡ encode x ++ drop n s
 
-pub canonical : (s : List ℕ) (i x n : ℕ) → ((k : ℕ) → getD s k 0 < 256) → decode s i ≡ Number x n → Canonical s i x n
+pub encode-decode : (s : List ℕ) (i x n : ℕ) → ((k : ℕ) → getD s k 0 < 256) → decode s i ≡ Number x n → OneForm s i x n
 unfolding encode decode
-canonical s i x n by e =
-    let h = canonical-in 9 1 0 s i x n (omega arith) by e in
+encode-decode s i x n by e =
+    let h = encode-decode-in 9 1 0 s i x n (omega arith) by e in
     let v : x ≡ h .x = h .value ∙ omega arith in
     record { small = rw v (h .small); next = rw v (h .next); bytes = rw v (h .bytes) }

@@ -8,7 +8,7 @@ use lib.ListN.{length, getD}
 use lib.Dec.{ltb, leb, eqb}
 use Rattle.laws.specs.Lists.{put}
 use Rattle.numbers.specs.declared.Reading.{Reading}
-use Rattle.numbers.specs.declared.Reading.the-variants.{Number, Refused}
+use Rattle.numbers.specs.declared.Reading.the-variants.{Number, NumberFault}
 
 -- "nine bytes at most": a number is below 2 ^ 63.
 abbrev pub mostBytes : ℕ
@@ -26,11 +26,11 @@ encode x = encodeIn mostBytes x
 -- What is read from place i on, when f bytes are still allowed, the next group weighs w and the groups before it make v.
 -- "2: a number isn't shortest, or its ninth byte has the top bit set"; "1: the image ends inside a number, or where one is due".
 abbrev pub decodeIn : ℕ → ℕ → ℕ → List ℕ → ℕ → Reading
-decodeIn zero w v s i = Refused 2
+decodeIn zero w v s i = NumberFault 2
 decodeIn (suc f) w v s i =
-    cond (leb (length s) i) (Refused 1)
+    cond (leb (length s) i) (NumberFault 1)
     (cond (leb 128 (getD s i 0)) (decodeIn f (w * 128) (v + (getD s i 0 - 128) * w) s (i + 1))
-    (cond (ltb 1 w && eqb (getD s i 0) 0) (Refused 2)
+    (cond (ltb 1 w && eqb (getD s i 0) 0) (NumberFault 2)
     (Number (v + getD s i 0 * w) (i + 1))))
 
 -- The number that starts at place i and the place behind it, or the refusal that is met there.

@@ -7,7 +7,7 @@ ghost use Rattle.numbers.specs.Numbers.{encode, decode, Wrote};
 // A number and the place behind it, or the refusal (1, 2) that is met in reading it.
 pub enum Reading {
     Number(u64, usize),
-    Refused(usize),
+    NumberFault(usize),
 }
 
 // Reads the number that starts at a place, which may lie behind the slice.
@@ -21,12 +21,12 @@ pub fn read(s: &[u8], at: usize) -> Reading
     let mut i = at;
     while 0 < left {
         if s.len() <= i {
-            return Reading::Refused(1);
+            return Reading::NumberFault(1);
         }
         let b = s[i] as u64;
         if b < 128 {
             if 1 < w && b == 0 {
-                return Reading::Refused(2);
+                return Reading::NumberFault(2);
             }
             return Reading::Number(v + b * w, i + 1);
         }
@@ -35,7 +35,7 @@ pub fn read(s: &[u8], at: usize) -> Reading
         i = i + 1;
         left = left - 1;
     }
-    Reading::Refused(2)
+    Reading::NumberFault(2)
 }
 
 // How many bytes a number takes.

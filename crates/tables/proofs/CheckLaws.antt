@@ -5,6 +5,7 @@ use native.Mathlib.Decide.{decLt}
 use native.Mathlib.Omega.{arith}
 use native.Mathlib.Numerals.{add-one, sub-one}
 use mathlib.Core.Path.{_≡_, refl, sym, ap, _∙_}
+use mathlib.Core.Logic.{_↔_}
 use mathlib.Core.Bool.{Bool, true, false, cond, _||_}
 use lib.Count.{ones}
 use lib.Dec.{ltb, leb, eqb}
@@ -200,7 +201,7 @@ module _ (cat : Catalogue) (lent : ℕ) where
   unfolding tablesFault
   tables-more k l t e h = rw e (first-none (faultAt t) (tablesFault l cat lent (t + 1)) h)
 
-  tables-clear : (k t : ℕ) → tablesFault k cat lent t ≡ 0 → (u : ℕ) → t ≤ u → u < t + k → faultAt u ≡ 0
+  pub tables-clear : (k t : ℕ) → tablesFault k cat lent t ≡ 0 → (u : ℕ) → t ≤ u → u < t + k → faultAt u ≡ 0
   unfolding tablesFault
   tables-clear zero t e u l h = absurd (omega arith)
   tables-clear (suc k) t e u l h =
@@ -210,10 +211,18 @@ module _ (cat : Catalogue) (lent : ℕ) where
         | no j ↦ let q : t ≡ u = omega arith in rw q at (f .0)
       ]
 
-  clear-tables : (k t : ℕ) → ((u : ℕ) → t ≤ u → u < t + k → faultAt u ≡ 0) → tablesFault k cat lent t ≡ 0
+  pub clear-tables : (k t : ℕ) → ((u : ℕ) → t ≤ u → u < t + k → faultAt u ≡ 0) → tablesFault k cat lent t ≡ 0
   clear-tables zero t h = tables-none zero t (omega arith)
   clear-tables (suc k) t h =
       tables-more (suc k) k t refl (h t (omega arith) (omega arith)) ∙ clear-tables k (t + 1) (λ u l b. h u (omega arith) (omega arith))
+
+  -- No fault in the whole is none in m and n and none in the tables.
+  pub catalogue-split : (catalogueFault cat lent ≡ 0) ↔ ((sizeFault (cat .m) (cat .n) ≡ 0) × (tablesFault (cat .n) cat lent 0 ≡ 0))
+  unfolding catalogueFault
+  catalogue-split = (
+    λ e. first-clear (sizeFault (cat .m) (cat .n)) (tablesFault (cat .n) cat lent 0) e,
+    λ f. first-none (sizeFault (cat .m) (cat .n)) (tablesFault (cat .n) cat lent 0) (f .0) ∙ f .1,
+  )
 
   -- A catalogue without fault is lawful,
   pub fault-lawful : catalogueFault cat lent ≡ 0 → Lawful cat lent

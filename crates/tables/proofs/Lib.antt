@@ -1,2 +1,3 @@
 pub mod CatalogueLaws
+pub mod RowLaws
 pub mod CheckLaws

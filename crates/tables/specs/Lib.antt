@@ -1,3 +1,4 @@
 pub mod Sizes
 pub mod Catalogues
+pub mod Rows
 pub mod Checks

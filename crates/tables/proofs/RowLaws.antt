@@ -1,0 +1,29 @@
+-- The comparison of two rows, one law for each way that a walk over their codes goes. Assumes nothing.
+use Prim.Native.Nat.{ℕ, _<_, _≤_}
+use native.Mathlib.Omega.{arith}
+use mathlib.Core.Path.{_≡_, refl}
+use mathlib.Core.Bool.{true, false}
+use mathlib.Core.List.{List, [], _∷_}
+use borrow.Author.Tests.{lt-ltb, le-ltb}
+use Rattle.tables.specs.Rows.{below}
+
+pub below-none : (ys : List ℕ) → below [] ys ≡ false
+unfolding below
+below-none ys = refl
+
+pub below-bad : (xs : List ℕ) → below xs [] ≡ false
+unfolding below
+below-bad [] = refl
+below-bad (x ∷ xs) = refl
+
+pub below-lt : (x y : ℕ) (xs ys : List ℕ) → x < y → below (x ∷ xs) (y ∷ ys) ≡ true
+unfolding below
+below-lt x y xs ys h = rw (lt-ltb x y h)
+
+pub below-gt : (x y : ℕ) (xs ys : List ℕ) → y < x → below (x ∷ xs) (y ∷ ys) ≡ false
+unfolding below
+below-gt x y xs ys h = rw (le-ltb x y (omega arith), lt-ltb y x h)
+
+pub below-eq : (x y : ℕ) (xs ys : List ℕ) → y ≤ x → x ≤ y → below (x ∷ xs) (y ∷ ys) ≡ below xs ys
+unfolding below
+below-eq x y xs ys h l = rw (le-ltb x y h, le-ltb y x l)
