@@ -1,1 +1,4 @@
 pub mod AcceptLaws
+pub mod ReadingLaws
+pub mod LoadLaws
+pub mod SoundLaws

@@ -120,6 +120,10 @@ pub data Sound (s : List ℕ) (room m : ℕ) : ℕ → ℕ → ℕ → Type 0 wh
   none : {used i : ℕ} → length s ≤ i → Sound s room m 0 used i
   more : {k used i x c u e : ℕ} → tableAt s room m used i ≡ Table x c u e → Sound s room m k u e → Sound s room m (suc k) used i
 
+-- The same, whatever the number of attributes.
+abbrev pub Fillable : List ℕ → ℕ → ℕ → ℕ → ℕ → Type 0
+Fillable s room k used i = (m : ℕ) × Sound s room m k used i
+
 -- What a copy of k numbers from place i on into the lent cells gives, and what these hold then.
 pub record Copied (k : ℕ) (s : List ℕ) (i : ℕ) (lent : List ℕ) (r : Walk) (after : List ℕ) : Type 0 where
   pub end : r ≡ runEnd k s i

@@ -1,10 +1,10 @@
 // The loader's second pass: the cells of an image that the first pass has found good.
 ghost use mathlib.Core.Path.{_≡_};
-ghost use Prim.Native.Nat.{ℕ, _≤_};
+ghost use Prim.Native.Nat.{_≤_};
 ghost use lib.ListN.{length};
 ghost use Rattle.laws.specs.Lists.{put};
 ghost use Rattle.image.specs.Reading.{runEnd, codes};
-ghost use Rattle.image.specs.Load.{firstTable, tablesCodes, Sound, Copied};
+ghost use Rattle.image.specs.Load.{firstTable, tablesCodes, Fillable, Copied};
 use super::Walk;
 use numbers::Reading;
 
@@ -35,7 +35,7 @@ fn copy_codes(s: &[u8], at: usize, count: usize, out: &mut [u64]) -> Walk
 // Fills the front of the cells with the codes of n tables.
 // Scheme and count are read again and passed over; that they can be read is known from the first pass.
 pub fn fill(s: &[u8], n: usize, cells: &mut [u64])
-    requires { ⌜ (m : ℕ) × Sound (now s) (length (now cells)) m n 0 firstTable ⌝ }
+    requires { ⌜ Fillable (now s) (length (now cells)) n 0 firstTable ⌝ }
     ensures { λ _. ⌜ now (cells .exit) ≡ put (tablesCodes n (now (s .entry)) firstTable) (now (cells .entry)) ⌝ }
 {
     let mut i: usize = 3;

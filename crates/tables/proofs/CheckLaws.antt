@@ -107,6 +107,29 @@ pub table-count : (m lent used x c : ℕ) → badScheme m x ≡ false → tableF
 unfolding tableFault
 table-count m lent used x c e = rw e
 
+-- What a row count that meets neither is known to be.
+pub record Counted (lent used scheme rows : ℕ) : Type 0 where
+  pub few : rows ≤ mostRows
+  pub most : used + rows * ones scheme ≤ mostCells
+  pub room : used + rows * ones scheme ≤ lent
+
+module _ (lent used x c : ℕ) where
+  no-count : {A : Type 0} (k : ℕ) → countFault lent used x c ≡ suc k → countFault lent used x c ≡ 0 → A
+  no-count k e d = absurd (omega arith)
+
+  pub fault-counted : countFault lent used x c ≡ 0 → Counted lent used x c
+  fault-counted e =
+      elim (decLt mostRows c) [
+        | yes h ↦ no-count 5 (count-many lent used x c h) e
+        | no h ↦ elim (decLt mostCells (used + c * ones x)) [
+          | yes k ↦ no-count 7 (count-most lent used x c (omega arith) k) e
+          | no k ↦ elim (decLt lent (used + c * ones x)) [
+            | yes r ↦ no-count 7 (count-lent lent used x c (omega arith) (omega arith) r) e
+            | no r ↦ record { few = omega arith; most = omega arith; room = omega arith }
+          ]
+        ]
+      ]
+
 -- What a table that meets none of the three is known to be.
 pub record Clear (m lent used scheme rows : ℕ) : Type 0 where
   pub some : 0 < scheme
@@ -120,31 +143,18 @@ module _ (m lent used x c : ℕ) where
   clear-fault h =
       table-count m lent used x c (scheme-good m x (λ e. omega (arith, h .some)) (h .low)) ∙ count-good lent used x c (h .few) (h .most) (h .room)
 
-  no-fault : {A : Type 0} (k : ℕ) → tableFault m lent used x c ≡ suc k → tableFault m lent used x c ≡ 0 → A
-  no-fault k e d = absurd (omega arith)
-
-  -- the count of a table whose scheme is good
-  count-clear : badScheme m x ≡ false → 0 < x → x < 2 ^ m → tableFault m lent used x c ≡ 0 → Clear m lent used x c
-  count-clear b s l e =
-      let t = table-count m lent used x c b in
-      elim (decLt mostRows c) [
-        | yes h ↦ no-fault 5 (t ∙ count-many lent used x c h) e
-        | no h ↦ elim (decLt mostCells (used + c * ones x)) [
-          | yes k ↦ no-fault 7 (t ∙ count-most lent used x c (omega arith) k) e
-          | no k ↦ elim (decLt lent (used + c * ones x)) [
-            | yes r ↦ no-fault 7 (t ∙ count-lent lent used x c (omega arith) (omega arith) r) e
-            | no r ↦ record { some = s; low = l; few = omega arith; most = omega arith; room = omega arith }
-          ]
-        ]
-      ]
+  no-fault : {A : Type 0} → tableFault m lent used x c ≡ 5 → tableFault m lent used x c ≡ 0 → A
+  no-fault e d = absurd (omega arith)
 
   pub fault-clear : tableFault m lent used x c ≡ 0 → Clear m lent used x c
   fault-clear e =
       elim (decLt 0 x) [
-        | no z ↦ no-fault 4 (table-scheme m lent used x c (scheme-zero m x (omega arith))) e
+        | no z ↦ no-fault (table-scheme m lent used x c (scheme-zero m x (omega arith))) e
         | yes z ↦ elim (decLt x (2 ^ m)) [
-          | no h ↦ no-fault 4 (table-scheme m lent used x c (scheme-high m x (λ q. omega arith) (omega arith))) e
-          | yes h ↦ count-clear (scheme-good m x (λ q. omega arith) h) z h e
+          | no h ↦ no-fault (table-scheme m lent used x c (scheme-high m x (λ q. omega arith) (omega arith))) e
+          | yes h ↦
+              let k = fault-counted lent used x c (sym (table-count m lent used x c (scheme-good m x (λ q. omega arith) h)) ∙ e) in
+              record { some = z; low = h; few = k .few; most = k .most; room = k .room }
         ]
       ]
 

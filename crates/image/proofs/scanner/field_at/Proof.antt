@@ -1,41 +1,41 @@
-use native.Mathlib.Omega.{arith}
-use Prim.Native.Nat.{ℕ, _+_, _-_, _*_, _^_, _≤_, _<_}
+-- `image::scanner::field_at` meets its contract: one law for each way. Assumes nothing.
 use mathlib.Core.Path.{_≡_, refl, sym, ap, _∙_}
-use lib.ListN.{length, getD}
+use native.Mathlib.Omega.{arith}
+use denote.Ref.{now}
+use Rattle.image.proofs.LoadLaws.{field-bad, field-out, field-in}
+use Rattle.tables.proofs.CheckLaws.{inside, below, above}
 use borrow.Author.Needs.{needs}
 use Rattle.image.proofs.scanner.field_at.Statement.{statement}
 use Rattle.image.proofs.scanner.field_at.Tie as tie
-use Rattle.image.proofs.scanner.field_at.Reads as reads
-use Rattle.image.proofs.scanner.field_at.Lts as lts
-use Rattle.numbers.proofs.read.Reads as read-reads
 
--- src/scanner.rt:200:11
 read-requires : tie.Need-read-requires
 read-requires c κs = search needs
 
--- src/scanner.rt:201:25
 enum-known-x : tie.Need-enum-known-x
 enum-known-x c = search needs
 
--- src/scanner.rt:203:17
 returns : tie.Need-returns
-returns c = search needs
+returns c =
+    let a = c .before .before .before .before .before .before .args in
+    sym (field-out (now (a .s)) (a .at) (a .low) (a .high) (a .k) _ _ (sym (c .before .before .before .before .read .ensures) ∙ c .before .before .x .given .1) (below _ _ _ (c .if1 .taken)))
 
--- src/scanner.rt:206:17
 returns-2 : tie.Need-returns-2
-returns-2 c = search needs
+returns-2 c =
+    let a = c .before .before .before .before .before .before .before .args in
+    sym (field-out (now (a .s)) (a .at) (a .low) (a .high) (a .k) _ _ (sym (c .before .before .before .before .before .read .ensures) ∙ c .before .before .before .x .given .1) (above _ _ _ (c .before .if1 .left) (c .if2 .taken)))
 
--- src/scanner.rt:210:30
 enum-known-f : tie.Need-enum-known-f
 enum-known-f c = search needs
 
--- src/scanner.rt:197:1
 returns-3 : tie.Need-returns-3
-returns-3 c = search needs
+returns-3 c =
+    let a = c .before .before .before .before .before .before .before .args in
+    sym (field-in (now (a .s)) (a .at) (a .low) (a .high) (a .k) _ _ (sym (c .before .before .before .before .before .read .ensures) ∙ c .before .before .before .x .given .1) (inside _ _ _ (c .before .if1 .left) (c .if2 .left)))
 
--- src/scanner.rt:197:1
 returns-4 : tie.Need-returns-4
-returns-4 c = search needs
+returns-4 c =
+    let a = c .before .before .before .before .before .args in
+    sym (field-bad (now (a .s)) (a .at) (a .low) (a .high) (a .k) _ (sym (c .before .before .before .read .ensures) ∙ c .before .f .given .1))
 
 pub field-at-spec : {M : Type 1} → statement M
 field-at-spec =
