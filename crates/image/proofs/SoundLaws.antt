@@ -115,7 +115,7 @@ begun : (k : ℕ) (s : List ℕ) (room m n t used : ℕ) (xs cs : List ℕ) (i :
     → Begun s room m n k used i (tablesFrom k s room m n t used xs cs i)
 begun zero s room m n t used xs cs i g =
     elim (decLt i (length s)) [
-      | yes h ↦ no-good _ 9 i (ap (λ (r : Loaded). r .verdict) (tables-over s room m n t used xs cs i zero (omega arith) h)) g
+      | yes h ↦ no-good (tablesFrom zero s room m n t used xs cs i) 9 i (ap (λ (r : Loaded). r .verdict) (tables-over s room m n t used xs cs i zero (omega arith) h)) g
       | no h ↦
           let e = tables-end s room m n t used xs cs i zero (omega arith) (omega arith) in
           record { m-is = ap (λ (r : Loaded). r .catalogue .m) e; n-is = ap (λ (r : Loaded). r .catalogue .n) e; sound = none {used = used} {i = i} (omega arith) }
@@ -125,7 +125,7 @@ begun (suc k) s room m n t used xs cs i g = pick (tableAt s room m used i) refl 
     pick : (d : Entry) → tableAt s room m used i ≡ d
         → ((x c u e : ℕ) → tablesFrom k s room m n (t + 1) u (set xs t x) (set cs t c) e .verdict ≡ Good → Begun s room m n k u e (tablesFrom k s room m n (t + 1) u (set xs t x) (set cs t c) e))
         → Begun s room m n (suc k) used i (tablesFrom (suc k) s room m n t used xs cs i)
-    pick (TableFault f p) d ih = no-good _ f p (ap (λ (r : Loaded). r .verdict) (tables-bad s room m n t used xs cs i (suc k) f p (omega arith) d)) g
+    pick (TableFault f p) d ih = no-good (tablesFrom (suc k) s room m n t used xs cs i) f p (ap (λ (r : Loaded). r .verdict) (tables-bad s room m n t used xs cs i (suc k) f p (omega arith) d)) g
     pick (Table x c u e) d ih =
         let b : tablesFrom (suc k) s room m n t used xs cs i ≡ tablesFrom k s room m n (t + 1) u (set xs t x) (set cs t c) e =
         rw (sub-one (suc k)) at (tables-more s room m n t used xs cs i (suc k) x c u e (omega arith) d) in
@@ -148,7 +148,7 @@ pub record Headed (s : List ℕ) (room : ℕ) : Type 0 where
 module _ (s : List ℕ) (room : ℕ) (by : (k : ℕ) → getD s k 0 < 256) (g : scanOf s room .verdict ≡ Good) where
   from-n : (v i m j : ℕ) → fieldAt s 0 version version 3 ≡ Value v i → fieldAt s i 1 mostAttributes 4 ≡ Value m j
       → (d : Field) → fieldAt s j 1 mostTables 4 ≡ d → Headed s room
-  from-n v i m j a b (FieldFault k p) d = no-good _ k p (ap (λ (r : Loaded). r .verdict) (head-n s room v i a m j b k p d)) g
+  from-n v i m j a b (FieldFault k p) d = no-good (scanOf s room) k p (ap (λ (r : Loaded). r .verdict) (head-n s room v i a m j b k p d)) g
   from-n v i m j a b (Value n k) d =
       let e0 = one-byte s 0 version version 3 v i by (omega arith) a in
       let e1 = one-byte s i 1 mostAttributes 4 m j by (omega arith) b in
@@ -157,11 +157,11 @@ module _ (s : List ℕ) (room : ℕ) (by : (k : ℕ) → getD s k 0 < 256) (g : 
       record { m = m; n = n; same = head-good s room v i a m j b n k d ∙ rw e }
 
   from-m : (v i : ℕ) → fieldAt s 0 version version 3 ≡ Value v i → (d : Field) → fieldAt s i 1 mostAttributes 4 ≡ d → Headed s room
-  from-m v i a (FieldFault k p) d = no-good _ k p (ap (λ (r : Loaded). r .verdict) (head-m s room v i a k p d)) g
+  from-m v i a (FieldFault k p) d = no-good (scanOf s room) k p (ap (λ (r : Loaded). r .verdict) (head-m s room v i a k p d)) g
   from-m v i a (Value m j) d = from-n v i m j a d (fieldAt s j 1 mostTables 4) refl
 
   from-version : (d : Field) → fieldAt s 0 version version 3 ≡ d → Headed s room
-  from-version (FieldFault k p) d = no-good _ k p (ap (λ (r : Loaded). r .verdict) (head-version s room k p d)) g
+  from-version (FieldFault k p) d = no-good (scanOf s room) k p (ap (λ (r : Loaded). r .verdict) (head-version s room k p d)) g
   from-version (Value v i) d = from-m v i d (fieldAt s i 1 mostAttributes 4) refl
 
   pub headed : Headed s room
