@@ -2,3 +2,4 @@ pub mod AcceptLaws
 pub mod ReadingLaws
 pub mod LoadLaws
 pub mod SoundLaws
+pub mod PlaceLaws

@@ -11,7 +11,8 @@ use Rattle.numbers.specs.Numbers.{decode}
 use Rattle.numbers.specs.declared.Reading.{Reading}
 use Rattle.numbers.specs.declared.Reading.the-variants.{Number, NumberFault}
 use Rattle.numbers.proofs.EncodeLaws.{encode-last}
-use Rattle.numbers.proofs.RoundTrip.{no-number, encode-decode}
+use Rattle.numbers.proofs.DecodeLaws.{no-number}
+use Rattle.numbers.proofs.RoundTrip.{encode-decode}
 use Rattle.tables.specs.Sizes.{mostAttributes, mostTables, mostRows}
 use Rattle.image.specs.declared.Walk.the-variants.{To}
 use Rattle.image.specs.declared.Field.{Field}
