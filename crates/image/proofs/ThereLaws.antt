@@ -9,7 +9,9 @@ use mathlib.Core.Bool.{Bool, true, false, cond, _||_, true≢false}
 use mathlib.Core.List.{List, [], _∷_, _++_, append-assoc}
 use lib.ListN.{length, take, drop, length-append, length-drop, take-append-drop}
 use lib.Seq.{length-take-le, drop-append-seam, drop-drop}
+use lib.Count.{ones}
 use lib.Dec.{leb}
+use lib.Pow.{pow-mono}
 use borrow.Author.Tests.{leb-false}
 use Rattle.laws.specs.Lists.{part}
 use Rattle.laws.proofs.ListLaws.{length-part, part-append}
@@ -18,11 +20,19 @@ use Rattle.numbers.specs.declared.Reading.{Reading}
 use Rattle.numbers.specs.declared.Reading.the-variants.{Number, NumberFault}
 use Rattle.numbers.proofs.EncodeLaws.{last-in, more-in}
 use Rattle.numbers.proofs.RoundTrip.{decode-encode}
+use Rattle.tables.specs.declared.Catalogue.{Catalogue}
+use Rattle.tables.specs.Catalogues.{schemeOf, countOf, firstCell}
 use Rattle.tables.specs.Rows.{below}
+use Rattle.tables.specs.Checks.{badScheme, countFault, Lawful}
+use Rattle.tables.proofs.CatalogueLaws.{cells-next, table-ends}
+use Rattle.tables.proofs.CheckLaws.{scheme-good, count-good}
 use Rattle.image.specs.declared.Walk.{Walk}
 use Rattle.image.specs.declared.Walk.the-variants.{To, Fault}
+use Rattle.image.specs.declared.Entry.{Entry}
+use Rattle.image.specs.declared.Entry.the-variants.{Table, TableFault}
 use Rattle.image.specs.Reading.{runEnd, codes, rowsFrom}
-use Rattle.image.specs.Write.{encodes, tooHigh, rowsFault}
+use Rattle.image.specs.Load.{countAt, tableAt, tablesFrom, tablesCodes}
+use Rattle.image.specs.Write.{encodes, cellsOf, tablesImage, tooHigh, rowsFault, Accepted}
 
 -- ---- what the writer's tests say
 
@@ -45,6 +55,23 @@ row-clear : (k w : ℕ) (cells : List ℕ) (first : Bool) (before at : ℕ) → 
 unfolding rowsFault
 row-clear k w cells first before at e =
     row-clear-of (tooHigh (part at w cells)) (first || below (part before w cells) (part at w cells)) (rowsFault k w cells false at (at + w)) e
+
+or-low : {a b : Bool} → a ≡ false → b ≡ false → (a || b) ≡ false
+or-low {b} p q = rw p q
+
+pub low-append : (xs ys : List ℕ) → tooHigh xs ≡ false → tooHigh ys ≡ false → tooHigh (xs ++ ys) ≡ false
+unfolding tooHigh
+low-append [] ys h l = l
+low-append (x ∷ xs) ys h l = let c = or-clear (leb (2 ^ 63) x) (tooHigh xs) h in or-low (c .0) (low-append xs ys (c .1) l)
+
+-- All cells of rows that the writer does not refuse are low enough.
+rows-low : (k w : ℕ) (cells : List ℕ) (first : Bool) (before at : ℕ) → rowsFault k w cells first before at ≡ 0 → tooHigh (part at (k * w) cells) ≡ false
+unfolding tooHigh
+rows-low zero w cells first before at f = rw (zero-mul w)
+rows-low (suc k) w cells first before at f =
+    let g = row-clear k w cells first before at f in
+    let m : suc k * w ≡ w + k * w = suc-mul k w ∙ omega arith in
+    rw (m, part-append at w (k * w) cells) (low-append (part at w cells) (part (at + w) (k * w) cells) (g .0) (rows-low k w cells false at (at + w) (g .2)))
 
 -- ---- numbers
 
@@ -109,3 +136,53 @@ module _ (s : List ℕ) where
       let later = rows-read k w cells false at (at + w) i (i + length (encodes row)) r (omega arith) (g .2) (λ ys. rw got) (behind i (encodes row) (encodes rest ++ r) here) in
       let n : i + length (encodes row) + length (encodes rest) ≡ i + length (encodes row ++ encodes rest) = simp length-append (omega arith) in
       rw (end, rises, all) (later ∙ ap To n)
+
+  -- ---- a table
+
+  -- The entry of a table whose parts are read without fault.
+  table-entry : (room m used i x n c q e : ℕ) → decode s i ≡ Number x n → badScheme m x ≡ false → decode s n ≡ Number c q → countFault room used x c ≡ 0
+      → rowsFrom c (ones x) s true 0 q ≡ To e → tableAt s room m used i ≡ Table x c (used + c * ones x) e
+  unfolding tableAt countAt
+  table-entry room m used i x n c q e a b d f g = rw (a, b, d, f, g)
+
+  -- The codes of such a table, and those behind it.
+  pub table-codes : (k i x n c q e : ℕ) → decode s i ≡ Number x n → decode s n ≡ Number c q → runEnd (c * ones x) s q ≡ To e
+      → tablesCodes (suc k) s i ≡ codes (c * ones x) s q ++ tablesCodes k s e
+  unfolding tablesCodes
+  table-codes k i x n c q e a b d = rw (a, b, d)
+
+-- What is read of a table that was written: its entry, what lies behind it, and its codes.
+pub record TableThere (s : List ℕ) (room m used i x c : ℕ) (cs r : List ℕ) : Type 0 where
+  pub end : ℕ
+  pub entry : tableAt s room m used i ≡ Table x c (used + c * ones x) end
+  pub rest : drop end s ≡ r
+  pub cells : (k : ℕ) → tablesCodes (suc k) s i ≡ cs ++ tablesCodes k s end
+
+module _ (cat : Catalogue) (cells : List ℕ) (A : Accepted cat cells) (room : ℕ) (lent : firstCell cat (cat .n) ≤ room) (s : List ℕ) where
+  -- A table of the writer's reads as it was written.
+  table-reads : (t i : ℕ) (r : List ℕ) → t < cat .n → drop i s ≡ encode (schemeOf cat t) ++ (encode (countOf cat t) ++ (encodes (cellsOf cat cells t) ++ r))
+      → TableThere s room (cat .m) (firstCell cat t) i (schemeOf cat t) (countOf cat t) (cellsOf cat cells t) r
+  table-reads t i r h e =
+      let L = A .lawful in
+      let x = schemeOf cat t in
+      let c = countOf cat t in
+      let cs = cellsOf cat cells t in
+      let n = i + length (encode x) in
+      let q = n + length (encode c) in
+      let ends = table-ends cat (length cells) L t h in
+      let fits : firstCell cat t + c * ones x ≤ length cells = omega (arith, L .room) in
+      let scheme = number-reads s i x (encode c ++ (encodes cs ++ r)) (omega (arith, L .scheme t h, pow-mono (L .attributes))) e in
+      let at-count = behind s i (encode x) (encode c ++ (encodes cs ++ r)) e in
+      let count = number-reads s n c (encodes cs ++ r) (omega (arith, L .rows t h)) at-count in
+      let at-cells = behind s n (encode c) (encodes cs ++ r) at-count in
+      let long : length cs ≡ c * ones x = length-part (firstCell cat t) (c * ones x) cells fits in
+      let run = run-reads s cs r q (rows-low c (ones x) cells true 0 (firstCell cat t) (A .rows t h)) at-cells in
+      record {
+        end = q + length (encodes cs);
+        entry = table-entry s room (cat .m) (firstCell cat t) i x n c q (q + length (encodes cs)) scheme
+            (scheme-good (cat .m) x (λ z. omega (arith, L .some-scheme t h)) (L .scheme t h)) count
+            (count-good room (firstCell cat t) x c (L .rows t h) (omega (arith, L .cells)) (omega arith))
+            (rows-read s c (ones x) cells true 0 (firstCell cat t) 0 q r fits (A .rows t h) (λ ys. refl) at-cells);
+        rest = behind s q (encodes cs) r at-cells;
+        cells = λ k. table-codes s k i x n c q (q + length (encodes cs)) scheme count (rw long at (run .0)) ∙ ap (λ (l : List ℕ). l ++ tablesCodes k s (q + length (encodes cs))) (rw long at (run .1));
+      }
