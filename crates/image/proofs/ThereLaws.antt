@@ -6,13 +6,13 @@ use native.Mathlib.Omega.{arith}
 use native.Mathlib.Numerals.{add-one}
 use mathlib.Core.Path.{_≡_, refl, sym, ap, _∙_}
 use mathlib.Core.Bool.{Bool, true, false, cond, _||_, true≢false}
-use mathlib.Core.List.{List, [], _∷_, _++_, append-assoc}
-use lib.ListN.{length, take, drop, length-append, length-drop, take-append-drop}
-use lib.Seq.{length-take-le, drop-append-seam, drop-drop}
+use mathlib.Core.List.{List, [], _∷_, _++_, append-assoc, append-nil}
+use lib.ListN.{length, getD, set, take, drop, replicate, length-append, length-drop, take-append-drop}
+use lib.Seq.{length-take-le, take-add, take-suc, set-at, drop-append-seam, drop-drop}
 use lib.Count.{ones}
 use lib.Dec.{leb}
 use lib.Pow.{pow-mono}
-use borrow.Author.Tests.{leb-false}
+use borrow.Author.Tests.{leb-false, le-ltb}
 use Rattle.laws.specs.Lists.{part}
 use Rattle.laws.proofs.ListLaws.{length-part, part-append}
 use Rattle.numbers.specs.Numbers.{encode, decode}
@@ -22,6 +22,7 @@ use Rattle.numbers.proofs.EncodeLaws.{last-in, more-in}
 use Rattle.numbers.proofs.RoundTrip.{decode-encode}
 use Rattle.tables.specs.declared.Catalogue.{Catalogue}
 use Rattle.tables.specs.Catalogues.{schemeOf, countOf, firstCell}
+use Rattle.tables.specs.Sizes.{mostTables}
 use Rattle.tables.specs.Rows.{below}
 use Rattle.tables.specs.Checks.{badScheme, countFault, Lawful}
 use Rattle.tables.proofs.CatalogueLaws.{cells-next, table-ends}
@@ -33,6 +34,7 @@ use Rattle.image.specs.declared.Entry.the-variants.{Table, TableFault}
 use Rattle.image.specs.Reading.{runEnd, codes, rowsFrom}
 use Rattle.image.specs.Load.{countAt, tableAt, tablesFrom, tablesCodes}
 use Rattle.image.specs.Write.{encodes, cellsOf, tablesImage, tooHigh, rowsFault, Accepted}
+use Rattle.image.specs.RoundTrip.{front, trimmed, found}
 
 -- ---- what the writer's tests say
 
@@ -87,6 +89,15 @@ encode-some x =
       | yes l ↦ rw (last-in 8 x l) (omega arith)
       | no l ↦ rw (more-in 8 x (omega arith)) (omega arith)
     ]
+
+-- One entry more in front.
+front-more : (t : ℕ) (l : List ℕ) → t < mostTables → length l ≡ mostTables → set (front t l) t (getD l t 0) ≡ front (t + 1) l
+unfolding front
+front-more t l h e =
+    let p : mostTables - t ≡ suc (mostTables - (t + 1)) = omega arith in
+    let zeros : List ℕ = replicate (mostTables - (t + 1)) 0 in
+    let next : take (t + 1) l ≡ take t l ++ (getD l t 0 ∷ []) = rw add-one (take-suc l t 0 (omega arith)) in
+    rw (p, next) (set-at (take t l) 0 zeros (getD l t 0) t (length-take-le t l (omega arith)) ∙ sym (append-assoc (take t l) (getD l t 0 ∷ []) zeros))
 
 module _ (s : List ℕ) where
   -- What lies behind the bytes at place i.
@@ -186,3 +197,30 @@ module _ (cat : Catalogue) (cells : List ℕ) (A : Accepted cat cells) (room : �
         rest = behind s q (encodes cs) r at-cells;
         cells = λ k. table-codes s k i x n c q (q + length (encodes cs)) scheme count (rw long at (run .0)) ∙ ap (λ (l : List ℕ). l ++ tablesCodes k s (q + length (encodes cs))) (rw long at (run .1));
       }
+
+  -- ---- the tables
+
+  tables-read : (k t i : ℕ) → length (cat .schemes) ≡ mostTables → length (cat .rows) ≡ mostTables → t + k ≡ cat .n → drop i s ≡ tablesImage k cat cells t
+      → tablesFrom k s room (cat .m) (cat .n) t (firstCell cat t) (front t (cat .schemes)) (front t (cat .rows)) i ≡ found (trimmed cat)
+  unfolding tablesFrom tablesImage
+  tables-read zero t i ls lr n e =
+      let q : t ≡ cat .n = omega arith in
+      let over : length s ≤ i = omega (arith, length-drop i s, ap length e) in
+      rw (le-ltb i (length s) over, q)
+  tables-read (suc k) t i ls lr n e =
+      let d = table-reads t i (tablesImage k cat cells (t + 1)) (omega arith) e in
+      let few : t < mostTables = omega (arith, A .lawful .tables) in
+      rw (d .entry, front-more t (cat .schemes) few ls, front-more t (cat .rows) few lr, ← cells-next cat t)
+      (tables-read k (t + 1) (d .end) ls lr (omega arith) (d .rest))
+
+  codes-read : (k t i : ℕ) → t + k ≡ cat .n → drop i s ≡ tablesImage k cat cells t
+      → take (firstCell cat t) cells ++ tablesCodes k s i ≡ take (firstCell cat (cat .n)) cells
+  unfolding tablesCodes tablesImage
+  codes-read zero t i n e =
+      let q : t ≡ cat .n = omega arith in
+      rw (append-nil, q)
+  codes-read (suc k) t i n e =
+      let d = table-reads t i (tablesImage k cat cells (t + 1)) (omega arith) e in
+      let on : take (firstCell cat t) cells ++ cellsOf cat cells t ≡ take (firstCell cat (t + 1)) cells =
+      sym (take-add (firstCell cat t) (countOf cat t * ones (schemeOf cat t)) cells) ∙ rw (cells-next cat t) in
+      rw (d .cells k, ← append-assoc, on) (codes-read k (t + 1) (d .end) (omega arith) (d .rest))
