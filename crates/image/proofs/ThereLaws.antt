@@ -18,22 +18,24 @@ use Rattle.laws.proofs.ListLaws.{length-part, part-append}
 use Rattle.numbers.specs.Numbers.{encode, decode}
 use Rattle.numbers.specs.declared.Reading.{Reading}
 use Rattle.numbers.specs.declared.Reading.the-variants.{Number, NumberFault}
-use Rattle.numbers.proofs.EncodeLaws.{last-in, more-in}
+use Rattle.numbers.proofs.EncodeLaws.{last-in, more-in, encode-last}
 use Rattle.numbers.proofs.RoundTrip.{decode-encode}
 use Rattle.tables.specs.declared.Catalogue.{Catalogue}
 use Rattle.tables.specs.Catalogues.{schemeOf, countOf, firstCell}
-use Rattle.tables.specs.Sizes.{mostTables}
+use Rattle.tables.specs.Sizes.{mostAttributes, mostTables}
 use Rattle.tables.specs.Rows.{below}
 use Rattle.tables.specs.Checks.{badScheme, countFault, Lawful}
 use Rattle.tables.proofs.CatalogueLaws.{cells-next, table-ends}
-use Rattle.tables.proofs.CheckLaws.{scheme-good, count-good}
+use Rattle.tables.proofs.CheckLaws.{inside, scheme-good, count-good, InRange}
 use Rattle.image.specs.declared.Walk.{Walk}
 use Rattle.image.specs.declared.Walk.the-variants.{To, Fault}
+use Rattle.image.specs.declared.Field.{Field}
+use Rattle.image.specs.declared.Field.the-variants.{Value, FieldFault}
 use Rattle.image.specs.declared.Entry.{Entry}
 use Rattle.image.specs.declared.Entry.the-variants.{Table, TableFault}
 use Rattle.image.specs.Reading.{runEnd, codes, rowsFrom}
-use Rattle.image.specs.Load.{countAt, tableAt, tablesFrom, tablesCodes}
-use Rattle.image.specs.Write.{encodes, cellsOf, tablesImage, tooHigh, rowsFault, Accepted}
+use Rattle.image.specs.Load.{version, firstTable, fieldAt, countAt, tableAt, tablesFrom, scanOf, tablesCodes}
+use Rattle.image.specs.Write.{encodes, cellsOf, tablesImage, imageOf, tooHigh, rowsFault, Accepted}
 use Rattle.image.specs.RoundTrip.{front, trimmed, found}
 
 -- ---- what the writer's tests say
@@ -224,3 +226,53 @@ module _ (cat : Catalogue) (cells : List ℕ) (A : Accepted cat cells) (room : �
       let on : take (firstCell cat t) cells ++ cellsOf cat cells t ≡ take (firstCell cat (t + 1)) cells =
       sym (take-add (firstCell cat t) (countOf cat t * ones (schemeOf cat t)) cells) ∙ rw (cells-next cat t) in
       rw (d .cells k, ← append-assoc, on) (codes-read k (t + 1) (d .end) (omega arith) (d .rest))
+
+-- ---- the head
+
+-- A number of the head takes one byte.
+pub one-byte : (x : ℕ) → x < 128 → length (encode x) ≡ 1
+one-byte x h = ap length (encode-last x h)
+
+module _ (s : List ℕ) where
+  field-reads : (i x low high f : ℕ) (r : List ℕ) → low ≤ x → x ≤ high → x < 128 → drop i s ≡ encode x ++ r → fieldAt s i low high f ≡ Value x (i + 1)
+  unfolding fieldAt
+  field-reads i x low high f r l h b e = rw (number-reads s i x r (omega arith) e, inside low high x l h, one-byte x b)
+
+  one-behind : (i x : ℕ) (r : List ℕ) → x < 128 → drop i s ≡ encode x ++ r → drop (i + 1) s ≡ r
+  one-behind i x r b e = rw (one-byte x b) at (behind s i (encode x) r e)
+
+  -- Behind a head that was written the tables are read.
+  pub head-reads : (room m n : ℕ) (r : List ℕ) → InRange m n → s ≡ encode version ++ (encode m ++ (encode n ++ r))
+      → (scanOf s room ≡ tablesFrom n s room m n 0 0 (replicate mostTables 0) (replicate mostTables 0) firstTable) × (drop firstTable s ≡ r)
+  unfolding scanOf
+  head-reads room m n r R e =
+      let at-m : drop 1 s ≡ encode m ++ (encode n ++ r) = one-behind 0 version (encode m ++ (encode n ++ r)) (omega arith) e in
+      let at-n : drop 2 s ≡ encode n ++ r = one-behind 1 m (encode n ++ r) (omega (arith, R .m-high)) at-m in
+      let v = field-reads 0 version version version 3 (encode m ++ (encode n ++ r)) (omega arith) (omega arith) (omega arith) e in
+      let a = field-reads 1 m 1 mostAttributes 4 (encode n ++ r) (R .m-low) (R .m-high) (omega (arith, R .m-high)) at-m in
+      let b = field-reads 2 n 1 mostTables 4 r (R .n-low) (R .n-high) (omega (arith, R .n-high)) at-n in
+      (rw (v, a, b), one-behind 2 n r (omega (arith, R .n-high)) at-n)
+
+-- ---- the whole image
+
+pub image-parts : (cat : Catalogue) (cells : List ℕ) → imageOf cat cells ≡ encode version ++ (encode (cat .m) ++ (encode (cat .n) ++ tablesImage (cat .n) cat cells 0))
+unfolding imageOf
+image-parts cat cells = refl
+
+module _ (cat : Catalogue) (cells : List ℕ) (A : Accepted cat cells) (room : ℕ) (lent : firstCell cat (cat .n) ≤ room) where
+  head-there : (scanOf (imageOf cat cells) room ≡ tablesFrom (cat .n) (imageOf cat cells) room (cat .m) (cat .n) 0 0 (replicate mostTables 0) (replicate mostTables 0) firstTable)
+      × (drop firstTable (imageOf cat cells) ≡ tablesImage (cat .n) cat cells 0)
+  head-there =
+      let L = A .lawful in
+      head-reads (imageOf cat cells) room (cat .m) (cat .n) (tablesImage (cat .n) cat cells 0)
+      (record { m-low = L .some-attribute; m-high = L .attributes; n-low = L .some-table; n-high = L .tables }) (image-parts cat cells)
+
+  -- The scan of an image that was written finds its tables,
+  pub scan-there : length (cat .schemes) ≡ mostTables → length (cat .rows) ≡ mostTables → scanOf (imageOf cat cells) room ≡ found (trimmed cat)
+  unfolding front firstCell
+  scan-there ls lr = head-there .0 ∙ tables-read cat cells A room lent (imageOf cat cells) (cat .n) 0 firstTable ls lr (omega arith) (head-there .1)
+
+  -- and its codes are their cells.
+  pub codes-there : tablesCodes (cat .n) (imageOf cat cells) firstTable ≡ take (firstCell cat (cat .n)) cells
+  unfolding firstCell
+  codes-there = codes-read cat cells A room lent (imageOf cat cells) (cat .n) 0 firstTable (omega arith) (head-there .1)
