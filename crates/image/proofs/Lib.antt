@@ -1,2 +1,3 @@
 pub mod AcceptLaws
 pub mod ThereLaws
+pub mod RoundTrip
