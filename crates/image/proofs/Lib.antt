@@ -1,3 +1,4 @@
 pub mod AcceptLaws
 pub mod ThereLaws
+pub mod BackLaws
 pub mod RoundTrip

@@ -1,0 +1,98 @@
+-- Writing what was loaded: a number has one form only, so each part that was read without fault is what the writer puts there. Assumes nothing.
+use Prim.Native.Nat.{ℕ, zero, suc, _+_, _-_, _*_, _^_, _<_, _≤_}
+use native.Mathlib.Nat.{zero-add, add-zero, suc-mul, zero-mul}
+use native.Mathlib.Omega.{arith}
+use mathlib.Core.Path.{_≡_, refl, sym, ap, _∙_}
+use mathlib.Core.Bool.{Bool, true, false, cond, _||_}
+use mathlib.Core.List.{List, [], _∷_, _++_, append-assoc, append-nil}
+use lib.ListN.{length, getD, set, take, drop, replicate, length-append, length-drop, length-set, drop-of-length-le}
+use lib.Seq.{take-at, drop-at, drop-drop, getD-set-same, getD-set-other}
+use lib.Count.{ones}
+use lib.Dec.{ltb, leb}
+use borrow.Author.Tests.{lt-leb, ltb-false}
+use Rattle.laws.specs.Lists.{part}
+use Rattle.numbers.specs.Numbers.{encode, decode}
+use Rattle.numbers.specs.declared.Reading.{Reading}
+use Rattle.numbers.specs.declared.Reading.the-variants.{Number, NumberFault}
+use Rattle.numbers.proofs.RoundTrip.{OneForm, encode-decode}
+use Rattle.tables.specs.declared.Catalogue.{Catalogue}
+use Rattle.tables.specs.Catalogues.{schemeOf, countOf, firstCell}
+use Rattle.tables.specs.Sizes.{mostAttributes, mostTables}
+use Rattle.tables.specs.Rows.{below}
+use Rattle.tables.specs.Checks.{badScheme, countFault, tableFault}
+use Rattle.tables.proofs.CatalogueLaws.{cells-next}
+use Rattle.tables.proofs.CheckLaws.{table-count, fault-clear}
+use Rattle.image.specs.declared.Walk.{Walk}
+use Rattle.image.specs.declared.Walk.the-variants.{To, Fault}
+use Rattle.image.specs.declared.Entry.{Entry}
+use Rattle.image.specs.declared.Entry.the-variants.{Table, TableFault}
+use Rattle.image.specs.declared.Loaded.{Loaded}
+use Rattle.image.specs.Reading.{onNumber, onWalk, runEnd, codes, rowsFrom}
+use Rattle.image.specs.Load.{onFault, entryOf, countAt, tableAt, onEntry, tablesFrom, tablesCodes}
+use Rattle.image.specs.Write.{encodes, cellsOf, tablesImage, imageOf, tooHigh, rowsFault, tablesRefusal}
+use Rattle.image.specs.RoundTrip.{found}
+use Rattle.image.proofs.AcceptLaws.{refusal-more}
+use Rattle.image.proofs.ThereLaws.{table-codes}
+
+-- ---- an answer that is no refusal came by the way that goes on
+
+module _ {A : Type 0} (a : A) where
+  number-was : (d : Reading) (go : ℕ → ℕ → A) (refuse : ℕ → A) → ((k : ℕ) → refuse k ≡ a → ⊥) → onNumber d go refuse ≡ a
+      → (x : ℕ) × (n : ℕ) × (d ≡ Number x n) × (go x n ≡ a)
+  number-was (Number x n) go refuse z e = (x, n, refl, e)
+  number-was (NumberFault k) go refuse z e = absurd (z k e)
+
+  cond-was : (b : Bool) (x y : A) → (x ≡ a → ⊥) → cond b x y ≡ a → (b ≡ false) × (y ≡ a)
+  cond-was true x y z e = absurd (z e)
+  cond-was false x y z e = (refl, e)
+
+  fault-was : (f : ℕ) (refuse : ℕ → A) (y : A) → ((k : ℕ) → refuse k ≡ a → ⊥) → onFault f refuse y ≡ a → (f ≡ 0) × (y ≡ a)
+  fault-was zero refuse y z e = (refl, e)
+  fault-was (suc k) refuse y z e = absurd (z (suc k) e)
+
+  entry-was : (d : Entry) (go : ℕ → ℕ → ℕ → ℕ → A) (refuse : ℕ → ℕ → A) → ((k p : ℕ) → refuse k p ≡ a → ⊥) → onEntry d go refuse ≡ a
+      → (x : ℕ) × (c : ℕ) × (u : ℕ) × (e : ℕ) × (d ≡ Table x c u e) × (go x c u e ≡ a)
+  entry-was (Table x c u e) go refuse z q = (x, c, u, e, refl, q)
+  entry-was (TableFault k p) go refuse z q = absurd (z k p q)
+
+no-walk : (k p e : ℕ) → Fault k p ≡ To e → ⊥
+no-walk k p e q = let z : _≡_ {A = ℕ} 0 1 = cc in omega arith
+
+no-table : (k p x c u e : ℕ) → TableFault k p ≡ Table x c u e → ⊥
+no-table k p x c u e q = let z : _≡_ {A = ℕ} 0 1 = cc in omega arith
+
+-- ---- numbers one after the other
+
+run-was : (k : ℕ) (s : List ℕ) (i e : ℕ) → runEnd (suc k) s i ≡ To e → (x : ℕ) × (n : ℕ) × (decode s i ≡ Number x n) × (runEnd k s n ≡ To e)
+unfolding runEnd
+run-was k s i e q = number-was (To e) (decode s i) (λ x n. runEnd k s n) (λ f. Fault f i) (λ f. no-walk f i e) q
+
+pub run-add : (w k : ℕ) (s : List ℕ) (i n : ℕ) → runEnd w s i ≡ To n → (runEnd (w + k) s i ≡ runEnd k s n) × (codes (w + k) s i ≡ codes w s i ++ codes k s n)
+unfolding runEnd codes
+run-add zero k s i n e = let q : i ≡ n = cc in (rw (zero-add, q), rw (zero-add, q))
+run-add (suc w) k s i n e =
+    let t = run-was w s i n e in
+    let a = run-add w k s (t .1) n (t .3) in
+    let m : suc w + k ≡ suc (w + k) = omega arith in
+    (rw (m, t .2) (a .0), rw (m, t .2) (ap (λ (l : List ℕ). t .0 ∷ l) (a .1)))
+
+-- What k numbers that were read say of the bytes.
+pub record Run (k : ℕ) (s : List ℕ) (i e : ℕ) : Type 0 where
+  pub bytes : drop i s ≡ encodes (codes k s i) ++ drop e s
+  pub low : tooHigh (codes k s i) ≡ false
+  pub long : length (codes k s i) ≡ k
+
+module _ (s : List ℕ) (by : (k : ℕ) → getD s k 0 < 256) where
+  pub run-bytes : (k i e : ℕ) → runEnd k s i ≡ To e → Run k s i e
+  unfolding runEnd codes encodes tooHigh
+  run-bytes zero i e q = let p : i ≡ e = cc in record { bytes = rw p; low = refl; long = refl }
+  run-bytes (suc k) i e q =
+      let t = run-was k s i e q in
+      let x = t .0 in
+      let f = encode-decode s i x (t .1) by (t .2) in
+      let r = run-bytes k (t .1) e (t .3) in
+      record {
+        bytes = rw (t .2, f .bytes, r .bytes) (sym (append-assoc (encode x) (encodes (codes k s (t .1))) (drop e s)));
+        low = rw (t .2, lt-leb (2 ^ 63) x (f .small)) (r .low);
+        long = rw (t .2) (ap suc (r .long));
+      }
