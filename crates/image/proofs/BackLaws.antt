@@ -96,3 +96,46 @@ module _ (s : List ℕ) (by : (k : ℕ) → getD s k 0 < 256) where
         low = rw (t .2, lt-leb (2 ^ 63) x (f .small)) (r .low);
         long = rw (t .2) (ap suc (r .long));
       }
+
+-- ---- rows
+
+rows-was : (k w : ℕ) (s : List ℕ) (first : Bool) (p i e : ℕ) → rowsFrom (suc k) w s first p i ≡ To e
+    → (n : ℕ) × (runEnd w s i ≡ To n) × ((first || below (codes w s p) (codes w s i)) ≡ true) × (rowsFrom k w s false i n ≡ To e)
+unfolding rowsFrom
+rows-was k w s first p i e q = by-walk (runEnd w s i) (first || below (codes w s p) (codes w s i)) (λ n. rowsFrom k w s false i n) q
+  where
+    by-walk : (d : Walk) (b : Bool) (go : ℕ → Walk) → onWalk d (λ n. cond b (go n) (Fault 7 i)) ≡ To e → (n : ℕ) × (d ≡ To n) × (b ≡ true) × (go n ≡ To e)
+    by-walk (To n) true go q = (n, refl, refl, q)
+    by-walk (To n) false go q = absurd (no-walk 7 i e q)
+    by-walk (Fault f y) b go q = absurd (no-walk f y e q)
+
+-- The numbers of rows that were read lie one after the other.
+pub rows-run : (k w : ℕ) (s : List ℕ) (first : Bool) (p i e : ℕ) → rowsFrom k w s first p i ≡ To e → runEnd (k * w) s i ≡ To e
+unfolding runEnd rowsFrom
+rows-run zero w s first p i e q = rw zero-mul q
+rows-run (suc k) w s first p i e q =
+    let t = rows-was k w s first p i e q in
+    let m : suc k * w ≡ w + k * w = suc-mul k w ∙ omega arith in
+    rw m (run-add w (k * w) s i (t .0) (t .1) .0 ∙ rows-run k w s false i (t .0) e (t .3))
+
+-- Where a front stands in a list, it is the part of its length from there on, and behind it stands the rest.
+front-part : (l : List ℕ) (at w : ℕ) (a r : List ℕ) → length a ≡ w → drop at l ≡ a ++ r → (part at w l ≡ a) × (drop (at + w) l ≡ r)
+front-part l at w a r n e = (rw e (take-at a r w n), sym (drop-drop w at l) ∙ rw e (drop-at a r w n))
+
+module _ (s : List ℕ) (by : (k : ℕ) → getD s k 0 < 256) where
+  -- Rows that were read without fault are rows that the writer does not refuse, where their codes lie in the cells from `at` on.
+  rows-back : (k w : ℕ) (cells : List ℕ) (first : Bool) (before at p i e : ℕ) (r : List ℕ) → rowsFrom k w s first p i ≡ To e
+      → ((ys : List ℕ) → (first || below (part before w cells) ys) ≡ (first || below (codes w s p) ys)) → drop at cells ≡ codes (k * w) s i ++ r
+      → rowsFault k w cells first before at ≡ 0
+  unfolding rowsFault
+  rows-back zero w cells first before at p i e r q same d = refl
+  rows-back (suc k) w cells first before at p i e r q same d =
+      let t = rows-was k w s first p i e q in
+      let n = t .0 in
+      let m : suc k * w ≡ w + k * w = suc-mul k w ∙ omega arith in
+      let row = codes w s i in
+      let run = run-bytes s by w i n (t .1) in
+      let all : drop at cells ≡ row ++ (codes (k * w) s n ++ r) = d ∙ rw (m, run-add w (k * w) s i n (t .1) .1) (append-assoc row (codes (k * w) s n) r) in
+      let here = front-part cells at w row (codes (k * w) s n ++ r) (run .long) all in
+      let later = rows-back k w cells false at (at + w) i n e r (t .3) (λ ys. rw (here .0)) (here .1) in
+      rw (here .0, run .low, same row, t .2) later
