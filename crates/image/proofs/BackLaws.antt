@@ -37,10 +37,10 @@ use Rattle.image.proofs.ThereLaws.{table-codes}
 -- ---- an answer that is no refusal came by the way that goes on
 
 module _ {A : Type 0} (a : A) where
-  number-was : (d : Reading) (go : ℕ → ℕ → A) (refuse : ℕ → A) → ((k : ℕ) → refuse k ≡ a → ⊥) → onNumber d go refuse ≡ a
-      → (x : ℕ) × (n : ℕ) × (d ≡ Number x n) × (go x n ≡ a)
-  number-was (Number x n) go refuse z e = (x, n, refl, e)
-  number-was (NumberFault k) go refuse z e = absurd (z k e)
+  number-was : {P : Type 0} (d : Reading) (go : ℕ → ℕ → A) (refuse : ℕ → A) → ((k : ℕ) → refuse k ≡ a → ⊥) → onNumber d go refuse ≡ a
+      → ((x n : ℕ) → d ≡ Number x n → go x n ≡ a → P) → P
+  number-was (Number x n) go refuse z e f = f x n refl e
+  number-was (NumberFault k) go refuse z e f = absurd (z k e)
 
   cond-was : (b : Bool) (x y : A) → (x ≡ a → ⊥) → cond b x y ≡ a → (b ≡ false) × (y ≡ a)
   cond-was true x y z e = absurd (z e)
@@ -65,7 +65,7 @@ no-table k p x c u e q = let z : _≡_ {A = ℕ} 0 1 = cc in omega arith
 
 run-was : (k : ℕ) (s : List ℕ) (i e : ℕ) → runEnd (suc k) s i ≡ To e → (x : ℕ) × (n : ℕ) × (decode s i ≡ Number x n) × (runEnd k s n ≡ To e)
 unfolding runEnd
-run-was k s i e q = number-was (To e) (decode s i) (λ x n. runEnd k s n) (λ f. Fault f i) (λ f. no-walk f i e) q
+run-was k s i e q = number-was (To e) (decode s i) (λ x n. runEnd k s n) (λ f. Fault f i) (λ f. no-walk f i e) q (λ x n d r. (x, n, d, r))
 
 pub run-add : (w k : ℕ) (s : List ℕ) (i n : ℕ) → runEnd w s i ≡ To n → (runEnd (w + k) s i ≡ runEnd k s n) × (codes (w + k) s i ≡ codes w s i ++ codes k s n)
 unfolding runEnd codes
@@ -139,3 +139,52 @@ module _ (s : List ℕ) (by : (k : ℕ) → getD s k 0 < 256) where
       let here = front-part cells at w row (codes (k * w) s n ++ r) (run .long) all in
       let later = rows-back k w cells false at (at + w) i n e r (t .3) (λ ys. rw (here .0)) (here .1) in
       rw (here .0, run .low, same row, t .2) later
+
+-- ---- a table
+
+-- What a good entry says of its table: where its numbers stand, that no check refuses it, its cells, and that its rows rise.
+pub record TableBack (s : List ℕ) (room m used i x c u e : ℕ) : Type 0 where
+  pub n : ℕ
+  pub q : ℕ
+  pub scheme : decode s i ≡ Number x n
+  pub count : decode s n ≡ Number c q
+  pub clear : tableFault m room used x c ≡ 0
+  pub cells : u ≡ used + c * ones x
+  pub rows : rowsFrom c (ones x) s true 0 q ≡ To e
+
+-- A table whose parts were read without fault, and whose entry is the one given.
+table-of : (s : List ℕ) (room m used i y n b q x c u e : ℕ) (d : Walk) → decode s i ≡ Number y n → decode s n ≡ Number b q → tableFault m room used y b ≡ 0
+    → rowsFrom b (ones y) s true 0 q ≡ d → entryOf y b (used + b * ones y) d ≡ Table x c u e → TableBack s room m used i x c u e
+table-of s room m used i y n b q x c u e (Fault k p) scheme count clear rows h = absurd (no-table k p x c u e h)
+table-of s room m used i y n b q x c u e (To z) scheme count clear rows h =
+    let ex : y ≡ x = cc in
+    let ec : b ≡ c = cc in
+    let eu : used + b * ones y ≡ u = cc in
+    let ee : z ≡ e = cc in
+    record {
+      n = n;
+      q = q;
+      scheme = rw ex at scheme;
+      count = rw ec at count;
+      clear = rw (ex, ec) at clear;
+      cells = rw (← ex, ← ec) (sym eu);
+      rows = rw (ex, ec, ee) at rows;
+    }
+
+module _ (s : List ℕ) (room m used x c u e : ℕ) where
+  count-was : (i y n : ℕ) → decode s i ≡ Number y n → badScheme m y ≡ false → countAt s room y used n ≡ Table x c u e → TableBack s room m used i x c u e
+  unfolding countAt
+  count-was i y n scheme good h =
+      let entry : ℕ → ℕ → Entry = λ b q. entryOf y b (used + b * ones y) (rowsFrom b (ones y) s true 0 q) in
+      number-was (Table x c u e) (decode s n) (λ b q. onFault (countFault room used y b) (λ k. TableFault k n) (entry b q)) (λ f. TableFault f n) (λ f. no-table f n x c u e) h
+      (λ b q count g.
+      let f = fault-was (Table x c u e) (countFault room used y b) (λ k. TableFault k n) (entry b q) (λ k. no-table k n x c u e) g in
+      table-of s room m used i y n b q x c u e (rowsFrom b (ones y) s true 0 q) scheme count (table-count m room used y b good ∙ f .0) refl (f .1))
+
+  pub table-was : (i : ℕ) → tableAt s room m used i ≡ Table x c u e → TableBack s room m used i x c u e
+  unfolding tableAt
+  table-was i h =
+      number-was (Table x c u e) (decode s i) (λ y n. cond (badScheme m y) (TableFault 5 i) (countAt s room y used n)) (λ f. TableFault f i) (λ f. no-table f i x c u e) h
+      (λ y n scheme g.
+      let b = cond-was (Table x c u e) (badScheme m y) (TableFault 5 i) (countAt s room y used n) (no-table 5 i x c u e) g in
+      count-was i y n scheme (b .0) (b .1))
