@@ -28,7 +28,7 @@ use Rattle.image.specs.declared.Entry.{Entry}
 use Rattle.image.specs.declared.Entry.the-variants.{Table, TableFault}
 use Rattle.image.specs.declared.Loaded.{Loaded}
 use Rattle.image.specs.Reading.{onNumber, onWalk, runEnd, codes, rowsFrom}
-use Rattle.image.specs.Load.{onFault, entryOf, countAt, tableAt, onEntry, tablesFrom, tablesCodes}
+use Rattle.image.specs.Load.{onFault, entryOf, countAt, tableAt, onEntry, refused, tablesFrom, tablesCodes}
 use Rattle.image.specs.Write.{encodes, cellsOf, tablesImage, imageOf, tooHigh, rowsFault, tablesRefusal}
 use Rattle.image.specs.RoundTrip.{found}
 use Rattle.image.proofs.AcceptLaws.{refusal-more}
@@ -50,10 +50,10 @@ module _ {A : Type 0} (a : A) where
   fault-was zero refuse y z e = (refl, e)
   fault-was (suc k) refuse y z e = absurd (z (suc k) e)
 
-  entry-was : (d : Entry) (go : ℕ → ℕ → ℕ → ℕ → A) (refuse : ℕ → ℕ → A) → ((k p : ℕ) → refuse k p ≡ a → ⊥) → onEntry d go refuse ≡ a
-      → (x : ℕ) × (c : ℕ) × (u : ℕ) × (e : ℕ) × (d ≡ Table x c u e) × (go x c u e ≡ a)
-  entry-was (Table x c u e) go refuse z q = (x, c, u, e, refl, q)
-  entry-was (TableFault k p) go refuse z q = absurd (z k p q)
+  entry-was : {P : Type 0} (d : Entry) (go : ℕ → ℕ → ℕ → ℕ → A) (refuse : ℕ → ℕ → A) → ((k p : ℕ) → refuse k p ≡ a → ⊥) → onEntry d go refuse ≡ a
+      → ((x c u e : ℕ) → d ≡ Table x c u e → go x c u e ≡ a → P) → P
+  entry-was (Table x c u e) go refuse z q f = f x c u e refl q
+  entry-was (TableFault k p) go refuse z q f = absurd (z k p q)
 
 no-walk : (k p e : ℕ) → Fault k p ≡ To e → ⊥
 no-walk k p e q = let z : _≡_ {A = ℕ} 0 1 = cc in omega arith
@@ -188,3 +188,38 @@ module _ (s : List ℕ) (room m used x c u e : ℕ) where
       (λ y n scheme g.
       let b = cond-was (Table x c u e) (badScheme m y) (TableFault 5 i) (countAt s room y used n) (no-table 5 i x c u e) g in
       count-was i y n scheme (b .0) (b .1))
+
+-- ---- the tables
+
+no-good : (k p : ℕ) (cat : Catalogue) → refused k p ≡ found cat → ⊥
+no-good k p cat q = let v = ap (λ (l : Loaded). l .verdict) q in let z : _≡_ {A = ℕ} 0 1 = cc in omega arith
+
+-- A good answer keeps m, n and what was set before table t.
+record Kept (cat : Catalogue) (m n t : ℕ) (xs cs : List ℕ) : Type 0 where
+  m-is : cat .m ≡ m
+  n-is : cat .n ≡ n
+  schemes : (u : ℕ) → u < t → schemeOf cat u ≡ getD xs u 0
+  rows : (u : ℕ) → u < t → countOf cat u ≡ getD cs u 0
+
+module _ (s : List ℕ) (room m n : ℕ) (cat : Catalogue) where
+  kept : (k t used : ℕ) (xs cs : List ℕ) (i : ℕ) → tablesFrom k s room m n t used xs cs i ≡ found cat → Kept cat m n t xs cs
+  unfolding tablesFrom
+  kept zero t used xs cs i q =
+      let c = cond-was (found cat) (ltb i (length s)) (refused 9 i) (found (record { m = m; n = n; schemes = xs; rows = cs })) (no-good 9 i cat) q in
+      let e : cat ≡ record { m = m; n = n; schemes = xs; rows = cs } = sym (ap (λ (l : Loaded). l .catalogue) (c .1)) in
+      record {
+        m-is = ap (λ (d : Catalogue). d .m) e;
+        n-is = ap (λ (d : Catalogue). d .n) e;
+        schemes = λ u h. ap (λ (d : Catalogue). schemeOf d u) e;
+        rows = λ u h. ap (λ (d : Catalogue). countOf d u) e;
+      }
+  kept (suc k) t used xs cs i q =
+      entry-was (found cat) (tableAt s room m used i) (λ x c u e. tablesFrom k s room m n (t + 1) u (set xs t x) (set cs t c) e) refused (λ f p. no-good f p cat) q
+      (λ x c u e d g.
+      let K = kept k (t + 1) u (set xs t x) (set cs t c) e g in
+      record {
+        m-is = K .m-is;
+        n-is = K .n-is;
+        schemes = λ v h. K .schemes v (omega arith) ∙ getD-set-other xs t v x 0 (λ z. omega arith);
+        rows = λ v h. K .rows v (omega arith) ∙ getD-set-other cs t v c 0 (λ z. omega arith);
+      })
