@@ -223,3 +223,27 @@ module _ (s : List ℕ) (room m n : ℕ) (cat : Catalogue) where
         schemes = λ v h. K .schemes v (omega arith) ∙ getD-set-other xs t v x 0 (λ z. omega arith);
         rows = λ v h. K .rows v (omega arith) ∙ getD-set-other cs t v c 0 (λ z. omega arith);
       })
+
+-- k tables from table t on are read from place i on as the catalogue has them, and nothing lies behind them.
+pub data Tables (s : List ℕ) (room : ℕ) (cat : Catalogue) : ℕ → ℕ → ℕ → Type 0 where
+  none : {t i : ℕ} → length s ≤ i → Tables s room cat 0 t i
+  more : {k t i e : ℕ} → tableAt s room (cat .m) (firstCell cat t) i ≡ Table (schemeOf cat t) (countOf cat t) (firstCell cat (t + 1)) e
+      → Tables s room cat k (t + 1) e → Tables s room cat (suc k) t i
+
+module _ (s : List ℕ) (room n : ℕ) (cat : Catalogue) where
+  pub tables-were : (k t : ℕ) (xs cs : List ℕ) (i : ℕ) → t + k ≤ length xs → t + k ≤ length cs → tablesFrom k s room (cat .m) n t (firstCell cat t) xs cs i ≡ found cat
+      → Tables s room cat k t i
+  unfolding tablesFrom
+  tables-were zero t xs cs i lx lc q =
+      let c = cond-was (found cat) (ltb i (length s)) (refused 9 i) (found (record { m = cat .m; n = n; schemes = xs; rows = cs })) (no-good 9 i cat) q in
+      none (ltb-false i (length s) (c .0))
+  tables-were (suc k) t xs cs i lx lc q =
+      entry-was (found cat) (tableAt s room (cat .m) (firstCell cat t) i) (λ x c u e. tablesFrom k s room (cat .m) n (t + 1) u (set xs t x) (set cs t c) e)
+      refused (λ f p. no-good f p cat) q
+      (λ x c u e d g.
+      let K = kept s room (cat .m) n cat k (t + 1) u (set xs t x) (set cs t c) e g in
+      let ex : schemeOf cat t ≡ x = K .schemes t (omega arith) ∙ getD-set-same xs t x 0 (omega arith) in
+      let ec : countOf cat t ≡ c = K .rows t (omega arith) ∙ getD-set-same cs t c 0 (omega arith) in
+      let eu : firstCell cat (t + 1) ≡ u = cells-next cat t ∙ rw (ex, ec) (sym (table-was s room (cat .m) (firstCell cat t) x c u e i d .cells)) in
+      more (rw (ex, ec, eu) d)
+      (tables-were k (t + 1) (set xs t x) (set cs t c) e (rw (length-set) (omega arith)) (rw (length-set) (omega arith)) (rw eu g)))
