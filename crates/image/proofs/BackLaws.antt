@@ -31,7 +31,7 @@ use Rattle.image.specs.Reading.{onNumber, onWalk, runEnd, codes, rowsFro
 use Rattle.image.specs.Load.{onFault, entryOf, countAt, tableAt, onEntry, refused, tablesFrom, tablesCodes}
 use Rattle.image.specs.Write.{encodes, cellsOf, tablesImage, imageOf, tooHigh, rowsFault, tablesRefusal}
 use Rattle.image.specs.RoundTrip.{found}
-use Rattle.image.proofs.AcceptLaws.{refusal-more}
+use Rattle.image.proofs.AcceptLaws.{rowsAt, refusal-more}
 use Rattle.image.proofs.ThereLaws.{table-codes}
 
 -- ---- an answer that is no refusal came by the way that goes on
@@ -247,3 +247,24 @@ module _ (s : List ℕ) (room n : ℕ) (cat : Catalogue) where
       let eu : firstCell cat (t + 1) ≡ u = cells-next cat t ∙ rw (ex, ec) (sym (table-was s room (cat .m) (firstCell cat t) x c u e i d .cells)) in
       more (rw (ex, ec, eu) d)
       (tables-were k (t + 1) (set xs t x) (set cs t c) e (rw (length-set) (omega arith)) (rw (length-set) (omega arith)) (rw eu g)))
+
+-- What table t, read at place i, and its cells say of each other: its bytes are those that the writer makes of its cells, its rows are not refused, and behind it
+-- stand the later tables and their cells.
+record TableAgain (s : List ℕ) (cat : Catalogue) (cells : List ℕ) (k t i e : ℕ) (r : List ℕ) : Type 0 where
+  bytes : drop i s ≡ encode (schemeOf cat t) ++ (encode (countOf cat t) ++ (encodes (cellsOf cat cells t) ++ drop e s))
+  rows : rowsAt cat cells t ≡ 0
+  rest : drop (firstCell cat (t + 1)) cells ≡ tablesCodes k s e ++ r
+
+module _ (s : List ℕ) (by : (k : ℕ) → getD s k 0 < 256) (room : ℕ) (cat : Catalogue) where
+  -- The tables have as many codes as cells, and fit in the room.
+  pub tables-fit : (k t i n : ℕ) → t + k ≡ n → firstCell cat t ≤ room → Tables s room cat k t i
+      → (firstCell cat t + length (tablesCodes k s i) ≡ firstCell cat n) × (firstCell cat n ≤ room)
+  unfolding tablesCodes
+  tables-fit zero t i n e l (none h) = let q : t ≡ n = omega arith in (rw q (omega arith), rw (← q) l)
+  tables-fit (suc k) t i n e l (more {e = e′} d T) =
+      let b = table-was s room (cat .m) (firstCell cat t) (schemeOf cat t) (countOf cat t) (firstCell cat (t + 1)) e′ i d in
+      let fits = fault-clear (cat .m) room (firstCell cat t) (schemeOf cat t) (countOf cat t) (b .clear) .room in
+      let run = rows-run (countOf cat t) (ones (schemeOf cat t)) s true 0 (b .q) e′ (b .rows) in
+      let long = run-bytes s by (countOf cat t * ones (schemeOf cat t)) (b .q) e′ run .long in
+      let f = tables-fit k (t + 1) e′ n (omega arith) (omega (arith, b .cells)) T in
+      (rw (table-codes s k i (schemeOf cat t) (b .n) (countOf cat t) (b .q) e′ (b .scheme) (b .count) run) (simp length-append (omega (arith, b .cells, f .0))), f .1)
