@@ -21,7 +21,7 @@ use Rattle.tables.specs.Sizes.{mostAttributes, mostTables}
 use Rattle.tables.specs.Rows.{below}
 use Rattle.tables.specs.Checks.{badScheme, countFault, tableFault}
 use Rattle.tables.proofs.CatalogueLaws.{cells-next}
-use Rattle.tables.proofs.CheckLaws.{table-count, fault-clear}
+use Rattle.tables.proofs.CheckLaws.{faultAt, table-count, fault-clear}
 use Rattle.image.specs.declared.Walk.{Walk}
 use Rattle.image.specs.declared.Walk.the-variants.{To, Fault}
 use Rattle.image.specs.declared.Entry.{Entry}
@@ -31,7 +31,7 @@ use Rattle.image.specs.Reading.{onNumber, onWalk, runEnd, codes, rowsFro
 use Rattle.image.specs.Load.{onFault, entryOf, countAt, tableAt, onEntry, refused, tablesFrom, tablesCodes}
 use Rattle.image.specs.Write.{encodes, cellsOf, tablesImage, imageOf, tooHigh, rowsFault, tablesRefusal}
 use Rattle.image.specs.RoundTrip.{found}
-use Rattle.image.proofs.AcceptLaws.{rowsAt, refusal-more}
+use Rattle.image.proofs.AcceptLaws.{refusal-none, refusal-more}
 use Rattle.image.proofs.ThereLaws.{table-codes}
 
 -- ---- an answer that is no refusal came by the way that goes on
@@ -248,23 +248,56 @@ module _ (s : List ℕ) (room n : ℕ) (cat : Catalogue) where
       more (rw (ex, ec, eu) d)
       (tables-were k (t + 1) (set xs t x) (set cs t c) e (rw (length-set) (omega arith)) (rw (length-set) (omega arith)) (rw eu g)))
 
--- What table t, read at place i, and its cells say of each other: its bytes are those that the writer makes of its cells, its rows are not refused, and behind it
--- stand the later tables and their cells.
-record TableAgain (s : List ℕ) (cat : Catalogue) (cells : List ℕ) (k t i e : ℕ) (r : List ℕ) : Type 0 where
-  bytes : drop i s ≡ encode (schemeOf cat t) ++ (encode (countOf cat t) ++ (encodes (cellsOf cat cells t) ++ drop e s))
-  rows : rowsAt cat cells t ≡ 0
-  rest : drop (firstCell cat (t + 1)) cells ≡ tablesCodes k s e ++ r
+-- What table t of a catalogue says when it was read at place i: its bytes are those of its numbers, its codes lie before those behind it, and no check refuses it.
+record TableRead (s : List ℕ) (room : ℕ) (cat : Catalogue) (t i e : ℕ) : Type 0 where
+  q : ℕ
+  got : List ℕ
+  got-is : got ≡ codes (countOf cat t * ones (schemeOf cat t)) s q
+  bytes : drop i s ≡ encode (schemeOf cat t) ++ (encode (countOf cat t) ++ (encodes got ++ drop e s))
+  long : length got ≡ countOf cat t * ones (schemeOf cat t)
+  all : (k : ℕ) → tablesCodes (suc k) s i ≡ got ++ tablesCodes k s e
+  clear : faultAt cat room t ≡ 0
+  rows : rowsFrom (countOf cat t) (ones (schemeOf cat t)) s true 0 q ≡ To e
 
 module _ (s : List ℕ) (by : (k : ℕ) → getD s k 0 < 256) (room : ℕ) (cat : Catalogue) where
+  table-read : (t i u e : ℕ) → tableAt s room (cat .m) (firstCell cat t) i ≡ Table (schemeOf cat t) (countOf cat t) u e → TableRead s room cat t i e
+  table-read t i u e d =
+      let x = schemeOf cat t in
+      let c = countOf cat t in
+      let b = table-was s room (cat .m) (firstCell cat t) x c u e i d in
+      let end = rows-run c (ones x) s true 0 (b .q) e (b .rows) in
+      let run = run-bytes s by (c * ones x) (b .q) e end in
+      record {
+        q = b .q;
+        got = codes (c * ones x) s (b .q);
+        got-is = refl;
+        bytes = rw (encode-decode s i x (b .n) by (b .scheme) .bytes, encode-decode s (b .n) c (b .q) by (b .count) .bytes, run .bytes);
+        long = run .long;
+        all = λ k. table-codes s k i x (b .n) c (b .q) e (b .scheme) (b .count) end;
+        clear = b .clear;
+        rows = b .rows;
+      }
+
   -- The tables have as many codes as cells, and fit in the room.
   pub tables-fit : (k t i n : ℕ) → t + k ≡ n → firstCell cat t ≤ room → Tables s room cat k t i
       → (firstCell cat t + length (tablesCodes k s i) ≡ firstCell cat n) × (firstCell cat n ≤ room)
   unfolding tablesCodes
   tables-fit zero t i n e l (none h) = let q : t ≡ n = omega arith in (rw q (omega arith), rw (← q) l)
   tables-fit (suc k) t i n e l (more {e = e′} d T) =
-      let b = table-was s room (cat .m) (firstCell cat t) (schemeOf cat t) (countOf cat t) (firstCell cat (t + 1)) e′ i d in
+      let b = table-read t i (firstCell cat (t + 1)) e′ d in
       let fits = fault-clear (cat .m) room (firstCell cat t) (schemeOf cat t) (countOf cat t) (b .clear) .room in
-      let run = rows-run (countOf cat t) (ones (schemeOf cat t)) s true 0 (b .q) e′ (b .rows) in
-      let long = run-bytes s by (countOf cat t * ones (schemeOf cat t)) (b .q) e′ run .long in
-      let f = tables-fit k (t + 1) e′ n (omega arith) (omega (arith, b .cells)) T in
-      (rw (table-codes s k i (schemeOf cat t) (b .n) (countOf cat t) (b .q) e′ (b .scheme) (b .count) run) (simp length-append (omega (arith, b .cells, f .0))), f .1)
+      let f = tables-fit k (t + 1) e′ n (omega arith) (omega (arith, cells-next cat t)) T in
+      (rw (b .all k) (simp length-append (omega (arith, cells-next cat t, f .0, b .long))), f .1)
+
+  -- Where the codes of the tables lie in the cells, the writer makes of them the bytes that were read, and refuses none.
+  pub tables-back : (cells r : List ℕ) (k t i : ℕ) → length cells ≡ room → Tables s room cat k t i → drop (firstCell cat t) cells ≡ tablesCodes k s i ++ r
+      → (drop i s ≡ tablesImage k cat cells t) × (tablesRefusal k cat cells t ≡ 0)
+  unfolding tablesImage
+  tables-back cells r zero t i l (none h) d = (drop-of-length-le s h, refusal-none cat cells 0 t (omega arith))
+  tables-back cells r (suc k) t i l (more {e = e} h T) d =
+      let b = table-read t i (firstCell cat (t + 1)) e h in
+      let here = front-part cells (firstCell cat t) (countOf cat t * ones (schemeOf cat t)) (b .got) (tablesCodes k s e ++ r) (b .long) (d ∙ rw (b .all k) (append-assoc (b .got) (tablesCodes k s e) r)) in
+      let later = tables-back cells r k (t + 1) e l T (rw (cells-next cat t) (here .1)) in
+      let rows = rows-back s by (countOf cat t) (ones (schemeOf cat t)) cells true 0 (firstCell cat t) 0 (b .q) e (tablesCodes k s e ++ r) (b .rows) (λ ys. refl)
+      (d ∙ rw (b .all k, ← b .got-is) (append-assoc (b .got) (tablesCodes k s e) r)) in
+      (rw (here .0, ← later .0) (b .bytes), refusal-more cat cells (suc k) k t refl (rw l (b .clear)) rows ∙ later .1)
