@@ -19,20 +19,22 @@ use Rattle.tables.specs.declared.Catalogue.{Catalogue}
 use Rattle.tables.specs.Catalogues.{schemeOf, countOf, firstCell}
 use Rattle.tables.specs.Sizes.{mostAttributes, mostTables}
 use Rattle.tables.specs.Rows.{below}
-use Rattle.tables.specs.Checks.{badScheme, countFault, tableFault}
+use Rattle.tables.specs.Checks.{outside, badScheme, countFault, tableFault}
 use Rattle.tables.proofs.CatalogueLaws.{cells-next}
 use Rattle.tables.proofs.CheckLaws.{faultAt, table-count, fault-clear}
 use Rattle.image.specs.declared.Walk.{Walk}
 use Rattle.image.specs.declared.Walk.the-variants.{To, Fault}
+use Rattle.image.specs.declared.Field.{Field}
+use Rattle.image.specs.declared.Field.the-variants.{Value, FieldFault}
 use Rattle.image.specs.declared.Entry.{Entry}
 use Rattle.image.specs.declared.Entry.the-variants.{Table, TableFault}
 use Rattle.image.specs.declared.Loaded.{Loaded}
 use Rattle.image.specs.Reading.{onNumber, onWalk, runEnd, codes, rowsFrom}
-use Rattle.image.specs.Load.{onFault, entryOf, countAt, tableAt, onEntry, refused, tablesFrom, tablesCodes}
+use Rattle.image.specs.Load.{version, firstTable, fieldAt, onField, onFault, entryOf, countAt, tableAt, onEntry, refused, tablesFrom, scanOf, tablesCodes}
 use Rattle.image.specs.Write.{encodes, cellsOf, tablesImage, imageOf, tooHigh, rowsFault, tablesRefusal}
 use Rattle.image.specs.RoundTrip.{found}
 use Rattle.image.proofs.AcceptLaws.{refusal-none, refusal-more}
-use Rattle.image.proofs.ThereLaws.{table-codes}
+use Rattle.image.proofs.ThereLaws.{or-clear, table-codes, one-byte}
 
 -- ---- an answer that is no refusal came by the way that goes on
 
@@ -301,3 +303,36 @@ module _ (s : List ℕ) (by : (k : ℕ) → getD s k 0 < 256) (room : ℕ) (cat 
       let rows = rows-back s by (countOf cat t) (ones (schemeOf cat t)) cells true 0 (firstCell cat t) 0 (b .q) e (tablesCodes k s e ++ r) (b .rows) (λ ys. refl)
       (d ∙ rw (b .all k, ← b .got-is) (append-assoc (b .got) (tablesCodes k s e) r)) in
       (rw (here .0, ← later .0) (b .bytes), refusal-more cat cells (suc k) k t refl (rw l (b .clear)) rows ∙ later .1)
+
+-- ---- the head
+
+field-was : {P : Type 0} (d : Field) (go : ℕ → ℕ → Loaded) (cat : Catalogue) → onField d go ≡ found cat → ((x n : ℕ) → d ≡ Value x n → go x n ≡ found cat → P) → P
+field-was (Value x n) go cat e f = f x n refl e
+field-was (FieldFault k p) go cat e f = absurd (no-good k p cat e)
+
+no-field : (k p x n : ℕ) → FieldFault k p ≡ Value x n → ⊥
+no-field k p x n q = let z : _≡_ {A = ℕ} 0 1 = cc in omega arith
+
+-- What a number of the head says: it lies in its range, and its one byte is that of the number.
+record FieldBack (s : List ℕ) (i low high x n : ℕ) : Type 0 where
+  low-is : low ≤ x
+  high-is : x ≤ high
+  next : n ≡ i + 1
+  bytes : drop i s ≡ encode x ++ drop n s
+
+inside-was : (low high x : ℕ) → outside low high x ≡ false → (low ≤ x) × (x ≤ high)
+inside-was low high x e = let c = or-clear (ltb x low) (ltb high x) e in (ltb-false x low (c .0), ltb-false high x (c .1))
+
+module _ (s : List ℕ) (by : (k : ℕ) → getD s k 0 < 256) where
+  field-back : (i low high f x n : ℕ) → high < 128 → fieldAt s i low high f ≡ Value x n → FieldBack s i low high x n
+  unfolding fieldAt
+  field-back i low high f x n h e =
+      number-was (Value x n) (decode s i) (λ y k. cond (outside low high y) (FieldFault f i) (Value y k)) (λ k. FieldFault k i) (λ k. no-field k i x n) e
+      (λ y k d g.
+      let c = cond-was (Value x n) (outside low high y) (FieldFault f i) (Value y k) (no-field f i x n) g in
+      let v : Value y k ≡ Value x n = c .1 in
+      let ex : y ≡ x = cc in
+      let en : k ≡ n = cc in
+      let r = inside-was low high y (c .0) in
+      let o = encode-decode s i y k by d in
+      record { low-is = omega arith; high-is = omega arith; next = sym en ∙ o .next ∙ rw (one-byte y (omega arith)); bytes = rw (← ex, ← en) (o .bytes) })

@@ -40,7 +40,7 @@ use Rattle.image.specs.RoundTrip.{front, trimmed, found}
 
 -- ---- what the writer's tests say
 
-or-clear : (a b : Bool) → (a || b) ≡ false → (a ≡ false) × (b ≡ false)
+pub or-clear : (a b : Bool) → (a || b) ≡ false → (a ≡ false) × (b ≡ false)
 or-clear true b e = absurd (true≢false e)
 or-clear false b e = (refl, e)
 
