@@ -2,7 +2,7 @@
 use Prim.Native.Nat.{ℕ, zero, suc, _+_, _-_, _*_, _^_, _<_, _≤_}
 use native.Mathlib.Nat.{zero-add, add-zero, suc-mul, zero-mul}
 use native.Mathlib.Omega.{arith}
-use mathlib.Core.Path.{_≡_, refl, sym, ap, _∙_}
+use mathlib.Core.Path.{_≡_, refl, sym, ap, subst, _∙_}
 use mathlib.Core.Bool.{Bool, true, false, cond, _||_}
 use mathlib.Core.List.{List, [], _∷_, _++_, append-assoc, append-nil}
 use lib.ListN.{length, getD, set, take, drop, replicate, length-append, length-drop, length-set, drop-of-length-le}
@@ -21,7 +21,7 @@ use Rattle.tables.specs.Sizes.{mostAttributes, mostTables}
 use Rattle.tables.specs.Rows.{below}
 use Rattle.tables.specs.Checks.{outside, badScheme, countFault, tableFault}
 use Rattle.tables.proofs.CatalogueLaws.{cells-next}
-use Rattle.tables.proofs.CheckLaws.{faultAt, table-count, fault-clear}
+use Rattle.tables.proofs.CheckLaws.{faultAt, table-count, fault-clear, InRange}
 use Rattle.image.specs.declared.Walk.{Walk}
 use Rattle.image.specs.declared.Walk.the-variants.{To, Fault}
 use Rattle.image.specs.declared.Field.{Field}
@@ -336,3 +336,36 @@ module _ (s : List ℕ) (by : (k : ℕ) → getD s k 0 < 256) where
       let r = inside-was low high y (c .0) in
       let o = encode-decode s i y k by d in
       record { low-is = omega arith; high-is = omega arith; next = sym en ∙ o .next ∙ rw (one-byte y (omega arith)); bytes = rw (← ex, ← en) (o .bytes) })
+
+  -- What a good scan says: m and n are in range, the head's bytes are theirs, and behind it the tables are read.
+  pub record ScanBack (room : ℕ) (cat : Catalogue) : Type 0 where
+    pub range : InRange (cat .m) (cat .n)
+    pub bytes : s ≡ encode version ++ (encode (cat .m) ++ (encode (cat .n) ++ drop firstTable s))
+    pub tables : Tables s room cat (cat .n) 0 firstTable
+
+  head-back : (room v i m j n k : ℕ) (cat : Catalogue) → FieldBack s 0 version version v i → FieldBack s i 1 mostAttributes m j → FieldBack s j 1 mostTables n k
+      → tablesFrom n s room m n 0 0 (replicate mostTables 0) (replicate mostTables 0) k ≡ found cat → ScanBack room cat
+  unfolding firstCell
+  head-back room v i m j n k cat a b c e =
+      let K = kept s room m n cat n 0 0 (replicate mostTables 0) (replicate mostTables 0) k e in
+      let ev : v ≡ version = omega (arith, a .low-is, a .high-is) in
+      let ek : k ≡ firstTable = omega (arith, a .next, b .next, c .next) in
+      let all : s ≡ encode v ++ (encode m ++ (encode n ++ drop k s)) = a .bytes ∙ ap (λ (l : List ℕ). encode v ++ l) (b .bytes ∙ ap (λ (l : List ℕ). encode m ++ l) (c .bytes)) in
+      let same-m = subst (λ (x : ℕ). tablesFrom n s room x n 0 0 (replicate mostTables 0) (replicate mostTables 0) k ≡ found cat) (sym (K .m-is)) e in
+      let T = tables-were s room n cat n 0 (replicate mostTables 0) (replicate mostTables 0) k (omega (arith, c .high-is)) (omega (arith, c .high-is)) same-m in
+      record {
+        range = rw (K .m-is, K .n-is) (record { m-low = b .low-is; m-high = b .high-is; n-low = c .low-is; n-high = c .high-is });
+        bytes = rw (ev, ← K .m-is, ← K .n-is, ek) at all;
+        tables = rw (← K .n-is, ek) at T;
+      }
+
+  pub scan-back : (room : ℕ) (cat : Catalogue) → scanOf s room ≡ found cat → ScanBack room cat
+  unfolding scanOf
+  scan-back room cat e =
+      let last : ℕ → ℕ → ℕ → Loaded = λ m n k. tablesFrom n s room m n 0 0 (replicate mostTables 0) (replicate mostTables 0) k in
+      field-was (fieldAt s 0 version version 3) (λ v i. onField (fieldAt s i 1 mostAttributes 4) (λ m j. onField (fieldAt s j 1 mostTables 4) (last m))) cat e
+      (λ v i a ea. field-was (fieldAt s i 1 mostAttributes 4) (λ m j. onField (fieldAt s j 1 mostTables 4) (last m)) cat ea
+      (λ m j b eb. field-was (fieldAt s j 1 mostTables 4) (last m) cat eb
+      (λ n k c ec.
+      head-back room v i m j n k cat (field-back 0 version version 3 v i (omega arith) a) (field-back i 1 mostAttributes 4 m j (omega arith) b)
+      (field-back j 1 mostTables 4 n k (omega arith) c) ec)))
