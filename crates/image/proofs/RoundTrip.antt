@@ -1,19 +1,31 @@
 -- The two round trips of the image format: loading what was written gives the same tables, and writing what was loaded gives the same bytes.
 -- Each is carried by its own file of laws, ThereLaws and BackLaws. Assumes nothing.
-use Prim.Native.Nat.{ℕ, _<_, _≤_}
+use Prim.Native.Nat.{ℕ, zero, suc, _<_, _≤_}
+use native.Mathlib.Omega.{arith}
 use mathlib.Core.Path.{_≡_, refl, sym, ap, _∙_}
-use mathlib.Core.List.{List}
-use lib.ListN.{length, take}
+use mathlib.Core.List.{List, _++_}
+use lib.ListN.{length, getD, take, drop}
+use lib.Seq.{take-at}
+use borrow.Author.Tests.{le-ltb}
 use Rattle.laws.specs.Lists.{put}
+use Rattle.laws.proofs.ListLaws.{length-put}
+use Rattle.numbers.specs.Numbers.{encode}
 use Rattle.tables.specs.declared.Catalogue.{Catalogue}
-use Rattle.tables.specs.Sizes.{mostTables}
+use Rattle.tables.specs.Sizes.{mostAttributes, mostTables}
 use Rattle.tables.specs.Catalogues.{firstCell}
+use Rattle.tables.specs.Checks.{firstOf, sizeFault, catalogueFault, Lawful}
+use Rattle.tables.proofs.CheckLaws.{first-none, first-clear, inside, size-good, lawful-fault}
+use Rattle.image.specs.declared.Verdict.{Verdict}
+use Rattle.image.specs.declared.Verdict.the-variants.{Good}
 use Rattle.image.specs.declared.Loaded.{Loaded}
-use Rattle.image.specs.Load.{firstTable, scanOf, tablesCodes, cellsAfter, Loads}
-use Rattle.image.specs.Write.{imageOf, writeFault}
-use Rattle.image.specs.RoundTrip.{trimmed, found}
+use Rattle.image.specs.declared.Written.{Written}
+use Rattle.image.specs.declared.Written.the-variants.{Length}
+use Rattle.image.specs.Load.{version, firstTable, scanOf, tablesCodes, cellsAfter, Loads}
+use Rattle.image.specs.Write.{tablesImage, imageOf, tablesRefusal, writeFault, Accepted, lengthFault, writtenOf, written, bytesAfter, Writes}
+use Rattle.image.specs.RoundTrip.{trimmed, found, loadedCells}
 use Rattle.image.proofs.AcceptLaws.{fault-accepted}
 use Rattle.image.proofs.ThereLaws.{scan-there, codes-there}
+use Rattle.image.proofs.BackLaws.{ScanBack, scan-back, tables-fit, tables-back}
 
 -- ---- loading what was written
 
@@ -33,3 +45,63 @@ module _ (cat : Catalogue) (cells : List ℕ) (schemes : length (cat .schemes) �
       let w = load-written (length lent) fits in
       let e : r ≡ found (trimmed cat) = l .answer ∙ w .0 in
       (e, l .cells ∙ rw (e, w .1))
+
+-- ---- writing what was loaded
+
+-- A list of bytes in which a scan with room for the lent cells finds tables.
+module _ (s lent : List ℕ) (cat : Catalogue) (by : (k : ℕ) → getD s k 0 < 256) (good : scanOf s (length lent) ≡ found cat) where
+  read : ScanBack s by (length lent) cat
+  read = scan-back s by (length lent) cat good
+
+  cells-long : length (loadedCells cat s lent) ≡ length lent
+  unfolding firstCell
+  cells-long =
+      let f = tables-fit s by (length lent) cat (cat .n) 0 firstTable (cat .n) (omega arith) (omega arith) (read .tables) in
+      length-put (tablesCodes (cat .n) s firstTable) lent (omega (arith, f .0, f .1))
+
+  tables-again : (drop firstTable s ≡ tablesImage (cat .n) cat (loadedCells cat s lent) 0) × (tablesRefusal (cat .n) cat (loadedCells cat s lent) 0 ≡ 0)
+  unfolding firstCell
+  tables-again =
+      let codes = tablesCodes (cat .n) s firstTable in
+      tables-back s by (length lent) cat (loadedCells cat s lent) (drop (length codes) lent) (cat .n) 0 firstTable cells-long (read .tables) refl
+
+  size-again : sizeFault (cat .m) (cat .n) ≡ 0
+  size-again =
+      let R = read .range in
+      size-good (cat .m) (cat .n) (inside 1 mostAttributes (cat .m) (R .m-low) (R .m-high)) (inside 1 mostTables (cat .n) (R .n-low) (R .n-high))
+
+  -- The writer refuses them for no reason but room, and makes the same bytes of them.
+  pub write-loaded : (writeFault cat (loadedCells cat s lent) ≡ 0) × (imageOf cat (loadedCells cat s lent) ≡ s)
+  unfolding writeFault imageOf
+  write-loaded = (
+    first-none (sizeFault (cat .m) (cat .n)) (tablesRefusal (cat .n) cat (loadedCells cat s lent) 0) size-again ∙ tables-again .1,
+    ap (λ (l : List ℕ). encode version ++ (encode (cat .m) ++ (encode (cat .n) ++ l))) (sym (tables-again .0)) ∙ sym (read .bytes),
+  )
+
+  -- They are what every reader of tables may go by.
+  pub load-accepted : Accepted cat (loadedCells cat s lent)
+  load-accepted = fault-accepted cat (loadedCells cat s lent) (write-loaded .0)
+
+  pub load-lawful : Lawful cat (length lent)
+  load-lawful = rw cells-long at (load-accepted .lawful)
+
+  pub load-clear : catalogueFault cat (length lent) ≡ 0
+  load-clear = lawful-fault cat (length lent) load-lawful
+
+-- ---- both, over what load and write promise
+
+written-of : (f len n : ℕ) → writtenOf f len ≡ Length n → (f ≡ 0) × (n ≡ len)
+written-of zero len n e = (refl, (cc))
+written-of (suc f) len n e = absurd (let z : _≡_ {A = ℕ} 0 1 = cc in omega arith)
+
+-- A write that gives a length refuses nothing, and it is the image's.
+written-was : (cat : Catalogue) (cells : List ℕ) (room n : ℕ) → written cat cells room ≡ Length n → (writeFault cat cells ≡ 0) × (n ≡ length (imageOf cat cells))
+unfolding written
+written-was cat cells room n e =
+    let w = written-of (firstOf (writeFault cat cells) (lengthFault cat cells room)) (length (imageOf cat cells)) n e in
+    (first-clear (writeFault cat cells) (lengthFault cat cells room) (w .0) .0, w .1)
+
+written-clear : (cat : Catalogue) (cells : List ℕ) (room : ℕ) → writeFault cat cells ≡ 0 → length (imageOf cat cells) ≤ room
+    → written cat cells room ≡ Length (length (imageOf cat cells))
+unfolding written lengthFault
+written-clear cat cells room e h = rw (e, le-ltb room (length (imageOf cat cells)) h)

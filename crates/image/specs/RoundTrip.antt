@@ -2,10 +2,12 @@
 use Prim.Native.Nat.{ℕ, _-_}
 use mathlib.Core.List.{List, _++_}
 use lib.ListN.{take, replicate}
+use Rattle.laws.specs.Lists.{put}
 use Rattle.tables.specs.declared.Catalogue.{Catalogue}
 use Rattle.tables.specs.Sizes.{mostTables}
 use Rattle.image.specs.declared.Verdict.the-variants.{Good}
 use Rattle.image.specs.declared.Loaded.{Loaded}
+use Rattle.image.specs.Load.{firstTable, tablesCodes}
 
 -- The first n of eight entries; "entries from n on .. are 0".
 unfoldable pub front : ℕ → List ℕ → List ℕ
@@ -18,3 +20,7 @@ trimmed cat = record { m = cat .m; n = cat .n; schemes = front (cat .n) (cat .sc
 -- The answer of a load that finds these tables.
 abbrev pub found : Catalogue → Loaded
 found cat = record { verdict = Good; catalogue = cat }
+
+-- What the lent cells hold behind a load that finds these tables in the bytes s.
+abbrev pub loadedCells : Catalogue → List ℕ → List ℕ → List ℕ
+loadedCells cat s lent = put (tablesCodes (cat .n) s firstTable) lent
