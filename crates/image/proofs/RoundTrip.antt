@@ -105,3 +105,23 @@ written-clear : (cat : Catalogue) (cells : List ℕ) (room : ℕ) → writeFault
     → written cat cells room ≡ Length (length (imageOf cat cells))
 unfolding written lengthFault
 written-clear cat cells room e h = rw (e, le-ltb room (length (imageOf cat cells)) h)
+
+-- A load of the bytes that a write made, into cells that the tables fit in, gives the tables back.
+pub written-loads : (cat : Catalogue) (cells out wrote lent after : List ℕ) (n : ℕ) (r : Loaded) → length (cat .schemes) ≡ mostTables → length (cat .rows) ≡ mostTables
+    → firstCell cat (cat .n) ≤ length lent → Writes cat cells out (Length n) wrote → Loads (take n wrote) lent r after
+    → (r ≡ found (trimmed cat)) × (after ≡ put (take (firstCell cat (cat .n)) cells) lent)
+written-loads cat cells out wrote lent after n r schemes rows fits w l =
+    let c = written-was cat cells (length out) n (sym (w .answer)) in
+    let image : take n wrote ≡ imageOf cat cells = rw (w .bytes) (take-at (imageOf cat cells) (drop (length (imageOf cat cells)) out) n (sym (c .1))) in
+    loads-written cat cells schemes rows (c .0) lent r after fits (rw image at l)
+
+-- A write of what a good load gave, into bytes that the image fits in, gives the image back.
+pub loaded-writes : (s lent after out wrote : List ℕ) (r : Loaded) (w : Written) → ((k : ℕ) → getD s k 0 < 256) → r .verdict ≡ Good → length s ≤ length out
+    → Loads s lent r after → Writes (r .catalogue) after out w wrote → (w ≡ Length (length s)) × (wrote ≡ put s out)
+loaded-writes s lent after out wrote r w by good fits l h =
+    let cat = r .catalogue in
+    let a = write-loaded s lent cat by (sym (l .answer) ∙ ap (λ (v : Verdict). record { verdict = v; catalogue = cat }) good) in
+    let cells : after ≡ loadedCells cat s lent = l .cells ∙ ap (λ (v : Verdict). cellsAfter v (tablesCodes (cat .n) s firstTable) lent) good in
+    let image : imageOf cat after ≡ s = rw cells (a .1) in
+    let answer : w ≡ Length (length s) = h .answer ∙ written-clear cat after (length out) (rw cells (a .0)) (rw image fits) ∙ rw image in
+    (answer, h .bytes ∙ rw (answer, image))
