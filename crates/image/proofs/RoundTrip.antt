@@ -50,7 +50,7 @@ module _ (cat : Catalogue) (cells : List ℕ) (schemes : length (cat .schemes) �
 
 -- A list of bytes in which a scan with room for the lent cells finds tables.
 module _ (s lent : List ℕ) (cat : Catalogue) (by : (k : ℕ) → getD s k 0 < 256) (good : scanOf s (length lent) ≡ found cat) where
-  read : ScanBack s by (length lent) cat
+  read : ScanBack s (length lent) cat
   read = scan-back s by (length lent) cat good
 
   cells-long : length (loadedCells cat s lent) ≡ length lent
@@ -87,6 +87,10 @@ module _ (s lent : List ℕ) (cat : Catalogue) (by : (k : ℕ) → getD s k 0 < 
 
   pub load-clear : catalogueFault cat (length lent) ≡ 0
   load-clear = lawful-fault cat (length lent) load-lawful
+
+  -- "eight schemes and eight row counts. Entries from n on .. are 0 after a load."
+  pub load-trimmed : (length (cat .schemes) ≡ mostTables) × (length (cat .rows) ≡ mostTables) × (trimmed cat ≡ cat)
+  load-trimmed = (read .schemes, read .rows, read .trim)
 
 -- ---- both, over what load and write promise
 
