@@ -21,9 +21,9 @@ use Rattle.image.specs.declared.Loaded.{Loaded}
 use Rattle.image.specs.declared.Written.{Written}
 use Rattle.image.specs.declared.Written.the-variants.{Length}
 use Rattle.image.specs.Load.{version, firstTable, scanOf, tablesCodes, cellsAfter, Loads}
-use Rattle.image.specs.Write.{tablesImage, imageOf, tablesRefusal, writeFault, Accepted, lengthFault, writtenOf, written, bytesAfter, Writes}
+use Rattle.image.specs.Write.{tablesImage, imageOf, tablesRefusal, writeFault, Accepted, lengthFault, writtenOf, written, Writes}
 use Rattle.image.specs.RoundTrip.{trimmed, found, loadedCells}
-use Rattle.image.proofs.AcceptLaws.{fault-accepted}
+use Rattle.image.proofs.AcceptLaws.{fault-accepted, accepted-fault}
 use Rattle.image.proofs.ThereLaws.{scan-there, codes-there}
 use Rattle.image.proofs.BackLaws.{ScanBack, scan-back, tables-fit, tables-back}
 
@@ -48,14 +48,19 @@ module _ (cat : Catalogue) (cells : List ℕ) (schemes : length (cat .schemes) �
 
 -- ---- writing what was loaded
 
+-- An answer that is good finds its own catalogue.
+pub found-good : (r : Loaded) → r .verdict ≡ Good → r ≡ found (r .catalogue)
+found-good r good = ap (λ (v : Verdict). record { verdict = v; catalogue = r .catalogue }) good
+
 -- A list of bytes in which a scan with room for the lent cells finds tables.
 module _ (s lent : List ℕ) (cat : Catalogue) (by : (k : ℕ) → getD s k 0 < 256) (good : scanOf s (length lent) ≡ found cat) where
   read : ScanBack s (length lent) cat
   read = scan-back s by (length lent) cat good
 
-  cells-long : length (loadedCells cat s lent) ≡ length lent
+  -- As many cells are there as were lent.
+  pub load-length : length (loadedCells cat s lent) ≡ length lent
   unfolding firstCell
-  cells-long =
+  load-length =
       let f = tables-fit s by (length lent) cat (cat .n) 0 firstTable (cat .n) (omega arith) (omega arith) (read .tables) in
       length-put (tablesCodes (cat .n) s firstTable) lent (omega (arith, f .0, f .1))
 
@@ -63,7 +68,7 @@ module _ (s lent : List ℕ) (cat : Catalogue) (by : (k : ℕ) → getD s k 0 < 
   unfolding firstCell
   tables-again =
       let codes = tablesCodes (cat .n) s firstTable in
-      tables-back s by (length lent) cat (loadedCells cat s lent) (drop (length codes) lent) (cat .n) 0 firstTable cells-long (read .tables) refl
+      tables-back s by (length lent) cat (loadedCells cat s lent) (drop (length codes) lent) (cat .n) 0 firstTable load-length (read .tables) refl
 
   size-again : sizeFault (cat .m) (cat .n) ≡ 0
   size-again =
@@ -78,12 +83,12 @@ module _ (s lent : List ℕ) (cat : Catalogue) (by : (k : ℕ) → getD s k 0 < 
     ap (λ (l : List ℕ). encode version ++ (encode (cat .m) ++ (encode (cat .n) ++ l))) (sym (tables-again .0)) ∙ sym (read .bytes),
   )
 
-  -- They are what every reader of tables may go by.
+  -- So they are accepted, lawful and without fault.
   pub load-accepted : Accepted cat (loadedCells cat s lent)
   load-accepted = fault-accepted cat (loadedCells cat s lent) (write-loaded .0)
 
   pub load-lawful : Lawful cat (length lent)
-  load-lawful = rw cells-long at (load-accepted .lawful)
+  load-lawful = rw load-length at (load-accepted .lawful)
 
   pub load-clear : catalogueFault cat (length lent) ≡ 0
   load-clear = lawful-fault cat (length lent) load-lawful
@@ -119,13 +124,25 @@ written-loads cat cells out wrote lent after n r schemes rows fits w l =
     let image : take n wrote ≡ imageOf cat cells = rw (w .bytes) (take-at (imageOf cat cells) (drop (length (imageOf cat cells)) out) n (sym (c .1))) in
     loads-written cat cells schemes rows (c .0) lent r after fits (rw image at l)
 
--- A write of what a good load gave, into bytes that the image fits in, gives the image back.
-pub loaded-writes : (s lent after out wrote : List ℕ) (r : Loaded) (w : Written) → ((k : ℕ) → getD s k 0 < 256) → r .verdict ≡ Good → length s ≤ length out
-    → Loads s lent r after → Writes (r .catalogue) after out w wrote → (w ≡ Length (length s)) × (wrote ≡ put s out)
-loaded-writes s lent after out wrote r w by good fits l h =
-    let cat = r .catalogue in
-    let a = write-loaded s lent cat by (sym (l .answer) ∙ ap (λ (v : Verdict). record { verdict = v; catalogue = cat }) good) in
-    let cells : after ≡ loadedCells cat s lent = l .cells ∙ ap (λ (v : Verdict). cellsAfter v (tablesCodes (cat .n) s firstTable) lent) good in
-    let image : imageOf cat after ≡ s = rw cells (a .1) in
-    let answer : w ≡ Length (length s) = h .answer ∙ written-clear cat after (length out) (rw cells (a .0)) (rw image fits) ∙ rw image in
-    (answer, h .bytes ∙ rw (answer, image))
+-- A load of bytes that finds them good.
+module _ (s lent after : List ℕ) (r : Loaded) (by : (k : ℕ) → getD s k 0 < 256) (good : r .verdict ≡ Good) (l : Loads s lent r after) where
+  loads-found : scanOf s (length lent) ≡ found (r .catalogue)
+  loads-found = sym (l .answer) ∙ found-good r good
+
+  loads-cells : after ≡ loadedCells (r .catalogue) s lent
+  loads-cells = l .cells ∙ ap (λ (v : Verdict). cellsAfter v (tablesCodes (r .catalogue .n) s firstTable) lent) good
+
+  -- What it gave may be written and opened,
+  pub loads-accepted : Accepted (r .catalogue) after
+  loads-accepted = rw loads-cells (load-accepted s lent (r .catalogue) by loads-found)
+
+  pub loads-clear : catalogueFault (r .catalogue) (length after) ≡ 0
+  loads-clear = lawful-fault (r .catalogue) (length after) (loads-accepted .lawful)
+
+  -- and a write of it, into bytes that the image fits in, gives the image back.
+  pub loaded-writes : (out wrote : List ℕ) (w : Written) → length s ≤ length out → Writes (r .catalogue) after out w wrote → (w ≡ Length (length s)) × (wrote ≡ put s out)
+  loaded-writes out wrote w fits h =
+      let image : imageOf (r .catalogue) after ≡ s = rw loads-cells (write-loaded s lent (r .catalogue) by loads-found .1) in
+      let clear = accepted-fault (r .catalogue) after loads-accepted in
+      let answer : w ≡ Length (length s) = h .answer ∙ written-clear (r .catalogue) after (length out) clear (rw image fits) ∙ rw image in
+      (answer, h .bytes ∙ rw (answer, image))

@@ -16,23 +16,18 @@ use borrow.Author.Tests.{leb-false, le-ltb}
 use Rattle.laws.specs.Lists.{part}
 use Rattle.laws.proofs.ListLaws.{length-part, part-append}
 use Rattle.numbers.specs.Numbers.{encode, decode}
-use Rattle.numbers.specs.declared.Reading.{Reading}
-use Rattle.numbers.specs.declared.Reading.the-variants.{Number, NumberFault}
+use Rattle.numbers.specs.declared.Reading.the-variants.{Number}
 use Rattle.numbers.proofs.EncodeLaws.{last-in, more-in, encode-last}
 use Rattle.numbers.proofs.RoundTrip.{decode-encode}
 use Rattle.tables.specs.declared.Catalogue.{Catalogue}
 use Rattle.tables.specs.Catalogues.{schemeOf, countOf, firstCell}
 use Rattle.tables.specs.Sizes.{mostAttributes, mostTables}
 use Rattle.tables.specs.Rows.{below}
-use Rattle.tables.specs.Checks.{badScheme, countFault, Lawful}
 use Rattle.tables.proofs.CatalogueLaws.{cells-next, table-ends}
 use Rattle.tables.proofs.CheckLaws.{inside, scheme-good, count-good, Clear, InRange}
-use Rattle.image.specs.declared.Walk.{Walk}
-use Rattle.image.specs.declared.Walk.the-variants.{To, Fault}
-use Rattle.image.specs.declared.Field.{Field}
-use Rattle.image.specs.declared.Field.the-variants.{Value, FieldFault}
-use Rattle.image.specs.declared.Entry.{Entry}
-use Rattle.image.specs.declared.Entry.the-variants.{Table, TableFault}
+use Rattle.image.specs.declared.Walk.the-variants.{To}
+use Rattle.image.specs.declared.Field.the-variants.{Value}
+use Rattle.image.specs.declared.Entry.the-variants.{Table}
 use Rattle.image.specs.Reading.{runEnd, codes, rowsFrom}
 use Rattle.image.specs.Load.{version, firstTable, fieldAt, countAt, tableAt, tablesFrom, scanOf, tablesCodes}
 use Rattle.image.specs.Write.{encodes, cellsOf, tablesImage, imageOf, tooHigh, rowsFault, Accepted}
