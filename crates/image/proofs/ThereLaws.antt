@@ -129,6 +129,15 @@ module _ (s : List ℕ) where
       let q : take i s ++ (encode x ++ r) ≡ s = rw (← e) (take-append-drop i s) in
       rw (q, p) at (decode-encode x (take i s) r h)
 
+  -- Two numbers, and what lies behind them.
+  two-read : (i x y : ℕ) (r : List ℕ) → x < 2 ^ 63 → y < 2 ^ 63 → drop i s ≡ encode x ++ (encode y ++ r)
+      → (decode s i ≡ Number x (i + length (encode x))) × (decode s (i + length (encode x)) ≡ Number y (i + length (encode x) + length (encode y)))
+      × (drop (i + length (encode x) + length (encode y)) s ≡ r)
+  two-read i x y r h l e =
+      let n = i + length (encode x) in
+      let at-y = behind i (encode x) (encode y ++ r) e in
+      (number-reads i x (encode y ++ r) h e, number-reads n y r l at-y, behind n (encode y) r at-y)
+
   -- A run of numbers is read to its end, and gives the numbers.
   run-reads : (xs r : List ℕ) (i : ℕ) → tooHigh xs ≡ false → drop i s ≡ encodes xs ++ r
       → (runEnd (length xs) s i ≡ To (i + length (encodes xs))) × (codes (length xs) s i ≡ xs)
@@ -245,18 +254,15 @@ module _ (cat : Catalogue) (cells : List ℕ) (A : Accepted cat cells) (room : �
         let cs = cellsOf cat cells t in
         let n = i + length (encode x) in
         let q = n + length (encode c) in
-        let at-count = behind s i (encode x) (encode c ++ (encodes cs ++ r)) e in
-        let at-cells = behind s n (encode c) (encodes cs ++ r) at-count in
-        let clear = table-clear t h in
-        let scheme = number-reads s i x (encode c ++ (encodes cs ++ r)) (omega (arith, clear .low, pow-mono (A .lawful .attributes))) e in
-        let count = number-reads s n c (encodes cs ++ r) (omega (arith, clear .few)) at-count in
-        let read = cells-read t q r h at-cells in
         let end = q + length (encodes cs) in
+        let clear = table-clear t h in
+        let d = two-read s i x c (encodes cs ++ r) (omega (arith, clear .low, pow-mono (A .lawful .attributes))) (omega (arith, clear .few)) e in
+        let read = cells-read t q r h (d .2) in
         record {
           end = end;
-          entry = table-entry s room (cat .m) (firstCell cat t) i x n c q end scheme count clear (read .0);
-          rest = behind s q (encodes cs) r at-cells;
-          cells = λ k. table-codes s k i x n c q end scheme count (read .1) ∙ ap (λ (l : List ℕ). l ++ tablesCodes k s end) (read .2);
+          entry = table-entry s room (cat .m) (firstCell cat t) i x n c q end (d .0) (d .1) clear (read .0);
+          rest = behind s q (encodes cs) r (d .2);
+          cells = λ k. table-codes s k i x n c q end (d .0) (d .1) (read .1) ∙ ap (λ (l : List ℕ). l ++ tablesCodes k s end) (read .2);
         }
 
     -- ---- the tables
