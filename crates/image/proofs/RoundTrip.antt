@@ -132,7 +132,7 @@ module _ (s lent after : List ℕ) (r : Loaded) (by : (k : ℕ) → getD s k 0 <
   loads-cells : after ≡ loadedCells (r .catalogue) s lent
   loads-cells = l .cells ∙ ap (λ (v : Verdict). cellsAfter v (tablesCodes (r .catalogue .n) s firstTable) lent) good
 
-  -- What it gave may be written and opened,
+  -- What it gave is accepted and without fault,
   pub loads-accepted : Accepted (r .catalogue) after
   loads-accepted = rw loads-cells (load-accepted s lent (r .catalogue) by loads-found)
 
