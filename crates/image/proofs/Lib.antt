@@ -6,3 +6,4 @@ pub mod AcceptLaws
 pub mod ThereLaws
 pub mod BackLaws
 pub mod RoundTrip
+pub mod Edges

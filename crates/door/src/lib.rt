@@ -1,0 +1,18 @@
+// The C door: a collector written in C asks whether an image is good.
+ghost use mathlib.Core.Path.{_≡_};
+ghost use Rattle.door.specs.Door.{checkOf};
+use image::Verdict;
+
+// 0 for a good image, else place x 32 + refusal; 8,192 cells of room are assumed.
+// The loader's first pass alone decides, so no cell is copied on the way.
+#[no_mangle]
+pub extern "C" fn harbour_check(image: &[u8]) -> u64
+    ensures { λ r. ⌜ r ≡ checkOf (now (image .entry)) ⌝ }
+{
+    let r = image::scan(image, 8192);
+    let verdict = r.verdict;
+    match verdict {
+        Verdict::Good => 0,
+        Verdict::Refused(k, p) => (p as u64) * 32 + (k as u64),
+    }
+}
