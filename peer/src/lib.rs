@@ -1,0 +1,27 @@
+//! The second program. It follows the written rules alone and shares no code with
+//! the proved library, so that running both on the same input means something.
+
+/// Fails unless a fact that the peer itself relies on holds.
+/// It is `assert!` under a name that the tests print well.
+#[macro_export]
+macro_rules! hold {
+    ($fact:expr, $($words:tt)*) => {
+        if !$fact {
+            return Err(format!($($words)*));
+        }
+    };
+}
+
+pub mod brute;
+pub mod edges;
+pub mod image;
+pub mod lent;
+pub mod library;
+pub mod listing;
+pub mod make;
+pub mod numbers;
+pub mod random;
+pub mod refusal;
+pub mod rule;
+pub mod tally;
+pub mod words;
