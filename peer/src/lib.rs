@@ -15,6 +15,8 @@ macro_rules! hold {
 pub mod brute;
 pub mod edges;
 pub mod image;
+#[cfg(feature = "stream")]
+pub mod lending;
 pub mod lent;
 pub mod library;
 pub mod listing;
@@ -23,5 +25,8 @@ pub mod numbers;
 pub mod random;
 pub mod refusal;
 pub mod rule;
+pub mod selfcheck;
+#[cfg(feature = "stream")]
+pub mod streams;
 pub mod tally;
 pub mod words;

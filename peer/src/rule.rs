@@ -228,12 +228,13 @@ pub enum Answer {
     Working,
 }
 
-/// Why a call stops at work: 12, or one of the three ways to 14.
+/// Why a call stops at work: 12, or one of the four ways to 14.
 /// The ways are told apart only to count them.
 #[derive(Clone, Copy, Debug, PartialEq, Eq)]
 pub enum Stop {
     Full,
-    BadKey,
+    KeyHandedOut,
+    KeyTriedOn,
     BadLink,
     TooDeep,
 }
@@ -244,7 +245,7 @@ impl Stop {
     pub fn refusal(self) -> Refusal {
         match self {
             Stop::Full => Refusal::Full,
-            Stop::BadKey | Stop::BadLink | Stop::TooDeep => Refusal::Damaged,
+            Stop::KeyHandedOut | Stop::KeyTriedOn | Stop::BadLink | Stop::TooDeep => Refusal::Damaged,
         }
     }
 }
@@ -317,7 +318,7 @@ pub fn misfit(record: &Record, records: usize, total: u64) -> Option<usize> {
 fn trial(tables: &Tables, store: &mut Store, record: &mut Record, counts: &mut Counts) -> Result<(), Stop> {
     let key = store.keys[record.taken as usize - 1];
     if !tables.names(key) {
-        return Err(Stop::BadKey);
+        return Err(Stop::KeyTriedOn);
     }
     let row = tables.order[record.next_row as usize];
     let mut set = tables.turned(&set_of(key), row);
@@ -371,7 +372,7 @@ pub fn next(catalogue: &Catalogue, cells: &[u64], store: &mut Store, record: &mu
             }
             let key = store.keys[record.taken as usize];
             if !tables.names(key) {
-                return (Outcome::Stopped(Stop::BadKey), counts);
+                return (Outcome::Stopped(Stop::KeyHandedOut), counts);
             }
             tables.pad(&set_of(key), padded);
             record.taken += 1;
