@@ -1,5 +1,6 @@
 //! The second program. It follows the written rules alone and shares no code with
 //! the proved library, so that running both on the same input means something.
+#![deny(unsafe_code)]
 
 /// Fails unless a fact that the peer itself relies on holds.
 /// It is `assert!` under a name that the tests print well.
@@ -18,6 +19,7 @@ pub mod image;
 #[cfg(feature = "stream")]
 pub mod lending;
 pub mod lent;
+#[allow(unsafe_code)]
 pub mod library;
 pub mod listing;
 pub mod make;

@@ -5,12 +5,16 @@ use crate::rule::Store;
 #[cfg(feature = "stream")]
 use crate::words::Call;
 
+// The library's calls on images, as its C names declare them.
+// A slice passes as a pointer and then its length in elements.
 extern "C" {
     fn harbour_check(image: *const u8, length: usize) -> u64;
     fn harbour_load(image: *const u8, image_length: usize, cells: *mut u64, cells_length: usize, catalogue: *mut u64, catalogue_length: usize) -> u64;
     fn harbour_write(catalogue: *const u64, catalogue_length: usize, cells: *const u64, cells_length: usize, out: *mut u8, out_length: usize) -> u64;
 }
 
+// The library's stream calls, declared in the same way.
+// Nothing checks a declaration against the library's source, so they are kept in one place.
 #[cfg(feature = "stream")]
 extern "C" {
     #[allow(clippy::too_many_arguments)]

@@ -103,6 +103,27 @@ fn damage_store(random: &mut Random, lending: &mut Lending) {
     }
 }
 
+/// Makes the store one long chain that every search follows, about as long as a search may be.
+/// The last record alone has another key, which some trial may seek.
+fn chain_store(random: &mut Random, lending: &mut Lending) {
+    let (words, total) = (lending.catalogue.slice(), lending.total().min(5000));
+    let length = (8 * words[1].min(8) as usize + random.range(0, 2)).min(lending.records());
+    let Some(record) = lending.stream_record() else {
+        return;
+    };
+    if length < 2 || record.found < 2 || record.found as usize > lending.records() {
+        return;
+    }
+    let other = lending.keys.slice()[random.range(1, record.found as usize - 1)];
+    for place in 0..length {
+        let link = if place + 1 < length { place as u16 + 2 } else { 0 };
+        lending.keys.slice_mut()[place] = if place + 1 < length { lending.keys.slice()[0] } else { other };
+        lending.left.slice_mut()[place] = link;
+        lending.right.slice_mut()[place] = link;
+    }
+    lending.record.slice_mut()[..RECORD].copy_from_slice(&[length as u64, 1, random.below(total + 1)]);
+}
+
 /// Damages the stream record, aimed at one of the six reasons for 13, or at random.
 /// A random record may still fit.
 fn damage_record(random: &mut Random, lending: &mut Lending) {
@@ -137,8 +158,9 @@ fn damage(random: &mut Random, lending: &mut Lending) {
         let values = lent.slice()[..length.min(lent.length())].to_vec();
         Lent::holding(&values, random)
     };
-    match random.below(16) {
+    match random.below(18) {
         0..=4 => damage_store(random, lending),
+        16 | 17 => chain_store(random, lending),
         5..=7 => damage_record(random, lending),
         8 => {
             let refusal = random.pick(&[4, 5, 6]);
@@ -298,9 +320,13 @@ fn longest_store(random: &mut Random, tally: &mut Tally) -> Result<(), String> {
     Ok(())
 }
 
+/// Sets written down by hand: each is its key and its padded row.
+/// They stand in the order of handing out.
+type Sets = &'static [(u64, &'static [u64])];
+
 /// Drains one stream on both sides and compares it with sets written down by hand.
-/// Each set is its key and its padded row, in the order of handing out.
-fn written_down(random: &mut Random, tally: &mut Tally, name: &str, image: &str, sets: &[(u64, &[u64])]) -> Result<(), String> {
+/// Behind the last of them the stream is finished.
+fn written_down(random: &mut Random, tally: &mut Tally, name: &str, image: &str, sets: Sets) -> Result<(), String> {
     let (catalogue, cells) = crate::image::read(&crate::edges::hex(image), 8192).map_err(|fault| format!("{name}: {fault:?}"))?;
     let tables = Tables { catalogue, cells };
     let mut pair = Pair::of(Lending::of(random, &tables, 20));
@@ -319,7 +345,7 @@ fn written_down(random: &mut Random, tally: &mut Tally, name: &str, image: &str,
 /// Codes are values plus 1.
 fn edges(random: &mut Random, tally: &mut Tally) {
     let two = "01 01 02 01 01";
-    let cases: [(&str, String, &[(u64, &[u64])]); 9] = [
+    let cases: [(&str, String, Sets); 9] = [
         ("P no rows", "01 01 01 01 00".to_string(), &[]),
         ("P one null row", "01 01 01 01 01 00".to_string(), &[(1, &[0])]),
         ("P values 10 and 4,294,967,306", format!("{two} 0B 01 01 8B 80 80 80 10"), &[(1, &[11]), (0x100, &[4_294_967_307])]),

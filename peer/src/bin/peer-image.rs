@@ -1,5 +1,6 @@
 //! Compares the library's check, load and write with the peer's, over many images and over the named edges.
 //! Use: peer-image [images] [seed]
+#![forbid(unsafe_code)]
 use peer::edges;
 use peer::lent::Lent;
 use peer::make::{self, Tables, WriterCase};

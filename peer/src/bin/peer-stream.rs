@@ -1,5 +1,6 @@
 //! The stream's second program: a listing, a check against the definition, a comparison with the library, and images.
 //! Use: peer-stream list | self [cases] [seed] | compare [cases] [seed] | images folder [number] [seed]
+#![forbid(unsafe_code)]
 use peer::edges;
 use peer::listing::{self, INPUT};
 use peer::make;
