@@ -29,7 +29,7 @@ use Rattle.image.specs.declared.Verdict.{Verdict}
 use Rattle.image.specs.declared.Verdict.the-variants.{Good, Refused}
 use Rattle.image.specs.declared.Loaded.{Loaded}
 use Rattle.image.specs.Reading.{onNumber, onWalk, runEnd, codes, rowsFrom}
-use Rattle.image.specs.Load.{version, refused, fieldAt, onField, entryOf, countAt, tableAt, onEntry, tablesFrom, scanOf}
+use Rattle.image.specs.Load.{version, refused, fieldAt, onField, entryOf, countAt, tableAt, onEntry, tablesFrom, scanOf, farthest, NearVerdict}
 use Rattle.image.proofs.LoadLaws.{count-bad, count-fault, count-rows, table-bad, table-scheme, table-count, good-field}
 
 -- ---- a run of numbers, and rows
@@ -116,11 +116,6 @@ table-near s room m used i = pick (decode s i) refl (decode-near s i)
 
 -- ---- the whole
 
--- An image is good, or refused at a place of at most b.
-abbrev pub NearVerdict : ℕ → Verdict → Type 0
-NearVerdict b Good = Unit
-NearVerdict b (Refused k p) = (p ≤ b) × (k ≤ 9)
-
 verdict-near : (a b : ℕ) (v : Verdict) → a ≤ b → NearVerdict a v → NearVerdict b v
 verdict-near a b Good l h = tt
 verdict-near a b (Refused k p) l h = omega arith
@@ -159,24 +154,24 @@ field-near s i low high f l = pick (decode s i) (decode-near s i)
     pick (Number x n) h = test (outside low high x) x n h
     pick (NumberFault k) h = omega arith
 
--- No refusal is placed above 590,000, and none has a number above 9.
-pub scan-near : (s : List ℕ) (room : ℕ) → NearVerdict 590000 (scanOf s room .verdict)
+-- No refusal is placed beyond the farthest place, and none has a number above 9.
+pub scan-near : (s : List ℕ) (room : ℕ) → NearVerdict farthest (scanOf s room .verdict)
 unfolding scanOf
 scan-near s room = head (fieldAt s 0 version version 3) (field-near s 0 version version 3 (omega arith))
   where
     tables : (m j : ℕ) → j ≤ 18 → (d : Field) → fieldAt s j 1 mostTables 4 ≡ d → NearField (j + 9) d
-        → NearVerdict 590000 (onField d (λ n k. tablesFrom n s room m n 0 0 (replicate 8 0) (replicate 8 0) k) .verdict)
+        → NearVerdict farthest (onField d (λ n k. tablesFrom n s room m n 0 0 (replicate 8 0) (replicate 8 0) k) .verdict)
     tables m j h (FieldFault k p) e g = omega arith
     tables m j h (Value n k) e g =
         let w = good-field s j 1 mostTables 4 n k e .high-bound in
-        verdict-near (k + (18 + 9 * mostCells) * n) 590000 (tablesFrom n s room m n 0 0 (replicate 8 0) (replicate 8 0) k .verdict) (omega arith) (tables-near n s room m n 0 0 (replicate 8 0) (replicate 8 0) k)
+        verdict-near (k + (18 + 9 * mostCells) * n) farthest (tablesFrom n s room m n 0 0 (replicate 8 0) (replicate 8 0) k .verdict) (omega arith) (tables-near n s room m n 0 0 (replicate 8 0) (replicate 8 0) k)
 
     attributes : (i : ℕ) → i ≤ 9 → (d : Field) → NearField (i + 9) d
-        → NearVerdict 590000 (onField d (λ m j. onField (fieldAt s j 1 mostTables 4) (λ n k. tablesFrom n s room m n 0 0 (replicate 8 0) (replicate 8 0) k)) .verdict)
+        → NearVerdict farthest (onField d (λ m j. onField (fieldAt s j 1 mostTables 4) (λ n k. tablesFrom n s room m n 0 0 (replicate 8 0) (replicate 8 0) k)) .verdict)
     attributes i h (FieldFault k p) g = omega arith
     attributes i h (Value m j) g = tables m j (omega arith) (fieldAt s j 1 mostTables 4) refl (field-near s j 1 mostTables 4 (omega arith))
 
     head : (d : Field) → NearField 9 d
-        → NearVerdict 590000 (onField d (λ v i. onField (fieldAt s i 1 mostAttributes 4) (λ m j. onField (fieldAt s j 1 mostTables 4) (λ n k. tablesFrom n s room m n 0 0 (replicate 8 0) (replicate 8 0) k))) .verdict)
+        → NearVerdict farthest (onField d (λ v i. onField (fieldAt s i 1 mostAttributes 4) (λ m j. onField (fieldAt s j 1 mostTables 4) (λ n k. tablesFrom n s room m n 0 0 (replicate 8 0) (replicate 8 0) k))) .verdict)
     head (FieldFault k p) g = omega arith
     head (Value v i) g = attributes i g (fieldAt s i 1 mostAttributes 4) (field-near s i 1 mostAttributes 4 (omega arith))

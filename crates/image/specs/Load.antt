@@ -115,6 +115,15 @@ abbrev pub cellsAfter : Verdict → List ℕ → List ℕ → List ℕ
 cellsAfter Good new old = put new old
 cellsAfter (Refused k p) new old = old
 
+-- No refusal of an image is placed beyond this: a number takes nine bytes at most, and only so many can be read before a table is refused.
+abbrev pub farthest : ℕ
+farthest = 590000
+
+-- An image is good, or refused at a place of at most b, by a number of at most 9.
+abbrev pub NearVerdict : ℕ → Verdict → Type 0
+NearVerdict b Good = Unit
+NearVerdict b (Refused k p) = (p ≤ b) × (k ≤ 9)
+
 -- k tables from place i on, each of them good, and nothing behind them: what the first pass has found before the second begins.
 pub data Sound (s : List ℕ) (room m : ℕ) : ℕ → ℕ → ℕ → Type 0 where
   none : {used i : ℕ} → length s ≤ i → Sound s room m 0 used i
