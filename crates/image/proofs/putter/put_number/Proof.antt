@@ -1,41 +1,38 @@
+-- `image::putter::put_number` meets its contract: the part that was lent came back with the number's bytes in its front. Assumes nothing.
 use native.Mathlib.Omega.{arith}
 use Prim.Native.Nat.{ℕ, _+_, _-_, _*_, _^_, _≤_, _<_}
 use mathlib.Core.Path.{_≡_, refl, sym, ap, _∙_}
 use lib.ListN.{length, getD}
 use borrow.Author.Needs.{needs}
+use Rattle.laws.proofs.ListLaws.{lent}
+use Rattle.image.specs.Write.{Placed}
+use Rattle.numbers.specs.Numbers.{encode}
 use Rattle.image.proofs.putter.put_number.Statement.{statement}
 use Rattle.image.proofs.putter.put_number.Tie as tie
-use Rattle.image.proofs.putter.put_number.Reads as reads
-use Rattle.image.proofs.putter.put_number.Lts as lts
-use Rattle.numbers.proofs.write.Reads as write-reads
 
--- src/putter.rt:18:25
 sub-write : tie.Need-sub-write
 sub-write c = search needs
 
--- src/putter.rt:18:25
 part-write-start : tie.Need-part-write-start
 part-write-start c = search needs
 
--- src/putter.rt:18:25
 part-write-end : tie.Need-part-write-end
 part-write-end c = search needs
 
--- src/putter.rt:18:10
 write-requires : tie.Need-write-requires
 write-requires c κs = search needs
 
--- src/putter.rt:18:5
 add-result : tie.Need-add-result
 add-result c = search needs
 
--- src/putter.rt:14:1
 same-length : tie.Need-same-length
 same-length c = search needs
 
--- src/putter.rt:14:1
 returns : tie.Need-returns
-returns c = search needs
+returns c =
+    let w = c .before .before .write in
+    let a = c .before .before .before .before .before .args in
+    record { next = omega (arith, w .ensures .count); bytes = lent (a .at) (a .out .now) (encode (a .x)) (w .last .0) (omega arith) (w .ensures .bytes) }
 
 pub put-number-spec : {M : Type 1} → statement M
 put-number-spec =

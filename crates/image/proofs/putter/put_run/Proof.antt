@@ -1,59 +1,77 @@
+-- `image::putter::put_run` meets its contract. Invariant: the numbers that are left, from the cursor on, make the whole answer. Assumes nothing.
 use borrow.Author.Needs.{needs}
 use native.Mathlib.Omega.{arith}
 use Prim.Native.Nat.{ℕ, _+_, _-_, _*_, _^_, _≤_, _<_}
 use mathlib.Core.Path.{_≡_, refl, sym, ap, _∙_}
 use lib.ListN.{length, getD}
+use mathlib.Core.Bool.{false}
+use Rattle.laws.specs.Lists.{part, over}
+use Rattle.laws.proofs.ListLaws.{put-nil}
+use Rattle.numbers.specs.Numbers.{encode}
+use Rattle.image.specs.Write.{encodes, tooHigh}
+use Rattle.image.proofs.WriteLaws.{low-next, run-none, run-more, run-length, placed-length, placed-rest}
 use Rattle.image.proofs.putter.put_run.Statement.{statement}
 use Rattle.image.proofs.putter.put_run.Tie as tie
-use Rattle.image.proofs.putter.put_run.Reads as reads
-use Rattle.image.proofs.putter.put_run.Lts as lts
-use Rattle.image.proofs.putter.put_number.Reads as put-number-reads
 
 abbrev Inv-loop : tie.InvT-loop
-Inv-loop cells from count out₀ start at₀ i₀ left₀ out at i left = ?
+Inv-loop cells from count out₀ start at₀ i₀ left₀ out at i left =
+    (i + left ≤ length cells)
+    × (tooHigh (part i left cells) ≡ false)
+    × (length out ≡ length out₀)
+    × (at + length (encodes (part i left cells)) ≡ start + length (encodes (part from count cells)))
+    × (over start (encodes (part from count cells)) out₀ ≡ over at (encodes (part i left cells)) out)
 
 abbrev μ-loop : tie.MeasureT-loop
-μ-loop cells from count out₀ start at₀ i₀ left₀ out at i left = ?
+μ-loop cells from count out₀ start at₀ i₀ left₀ out at i left = left
 
--- src/putter.rt:29:5
 loop-holds : tie.Need-loop-holds Inv-loop μ-loop
 loop-holds c = search needs
 
--- src/putter.rt:30:25
 mul-put-number : tie.Need-mul-put-number Inv-loop μ-loop
 mul-put-number c = search needs
 
--- src/putter.rt:30:25
 shared-slice-read-put-number : tie.Need-shared-slice-read-put-number Inv-loop μ-loop
 shared-slice-read-put-number c = search needs
 
--- src/putter.rt:30:9
 put-number-requires : tie.Need-put-number-requires Inv-loop μ-loop
-put-number-requires c κs = search needs
+put-number-requires c κs =
+    let l = c .before .before .before .loop in
+    let cells = c .before .before .before .before .before .before .args .cells .now in
+    (low-next cells (l .i) (l .left) (omega arith) (omega arith) (l .inv .1) .0, omega (arith, run-length cells (l .i) (l .left) (omega arith) (omega arith)))
 
--- src/putter.rt:31:13
 add-i : tie.Need-add-i Inv-loop μ-loop
 add-i c = search needs
 
--- src/putter.rt:32:16
 sub-left : tie.Need-sub-left Inv-loop μ-loop
 sub-left c = search needs
 
--- src/putter.rt:29:5
 loop-less : tie.Need-loop-less Inv-loop μ-loop
 loop-less c = search needs
 
--- src/putter.rt:29:5
 loop-again : tie.Need-loop-again Inv-loop μ-loop
-loop-again c = search needs
+loop-again c =
+    let l = c .before .before .before .before .before .before .loop in
+    let cells = c .before .before .before .before .before .before .before .before .before .args .cells .now in
+    let w = c .before .before .put-number .ensures in
+    let k = run-length cells (l .i) (l .left) (omega arith) (omega arith) in (
+      omega arith,
+      low-next cells (l .i) (l .left) (omega arith) (omega arith) (l .inv .1) .1,
+      placed-length (omega arith) w ∙ l .inv .2,
+      omega (arith, w .next),
+      l .inv .4 ∙ rw (run-more cells (l .i) (l .left) (omega arith) (omega arith)) (placed-rest (omega arith) w _),
+    )
 
--- src/putter.rt:22:1
 same-length : tie.Need-same-length Inv-loop μ-loop
 same-length c = search needs
 
--- src/putter.rt:22:1
 returns : tie.Need-returns Inv-loop μ-loop
-returns c = search needs
+returns c =
+    let l = c .before .loop in
+    let z = run-none (c .before .before .before .before .args .cells .now) (l .i) (l .left) (omega arith) in
+    record {
+      next = omega (arith, ap length z);
+      bytes = sym (l .inv .4 ∙ rw z (put-nil (l .out) (l .at)));
+    }
 
 pub put-run-spec : {M : Type 1} → statement M
 put-run-spec =
