@@ -1,5 +1,5 @@
 -- The writer's definitions, one law for each way that the code goes; what tables that meet no refusal have; and an image is short. Assumes nothing.
-use Prim.Native.Nat.{ℕ, zero, suc, _+_, _-_, _*_, _/_, _%_, _^_, _≤_, _<_}
+use Prim.Native.Nat.{ℕ, zero, suc, _+_, _-_, _*_, _/_, _^_, _≤_, _<_}
 use native.Mathlib.Nat.{suc-mul, pow-le-pow-right}
 use native.Mathlib.Decide.{decLt}
 use native.Mathlib.Omega.{arith}
@@ -19,13 +19,10 @@ use Rattle.tables.specs.declared.Catalogue.{Catalogue}
 use Rattle.tables.specs.Sizes.{mostTables, mostRows, mostCells}
 use Rattle.tables.specs.Catalogues.{schemeOf, countOf, firstCell}
 use Rattle.tables.specs.Rows.{below}
-use Rattle.tables.specs.Checks.{Lawful}
 use Rattle.tables.proofs.CatalogueLaws.{cells-next, table-ends}
-use Rattle.tables.proofs.CheckLaws.{first-some, first-none}
-use Rattle.image.specs.declared.Written.{Written}
 use Rattle.image.specs.declared.Written.the-variants.{Length, Refused}
 use Rattle.image.specs.Load.{version}
-use Rattle.image.specs.Write.{encodes, cellsOf, tablesImage, imageOf, tooHigh, rowsFault, writeFault, lengthFault, writtenOf, written, Accepted, Placed}
+use Rattle.image.specs.Write.{encodes, cellsOf, tablesImage, imageOf, tooHigh, rowsFault, writeFault, lengthFault, written, Placed}
 use Rattle.image.proofs.AcceptLaws.{fault-accepted}
 
 -- ---- 10
@@ -157,13 +154,14 @@ module _ {bs lent after : List ℕ} {a n : ℕ} (h : a + length bs ≤ length le
 
 -- ---- table by table
 
--- The bytes of a table, and how many they are.
-abbrev pub tableBytes : Catalogue → List ℕ → ℕ → List ℕ
-tableBytes cat cells t = encode (schemeOf cat t) ++ (encode (countOf cat t) ++ encodes (cellsOf cat cells t))
+-- The bytes of table t, where w is its width and its cells begin at `used`, and how many they are.
+abbrev pub tableBytes : Catalogue → List ℕ → ℕ → ℕ → ℕ → List ℕ
+tableBytes cat cells t used w = encode (schemeOf cat t) ++ (encode (countOf cat t) ++ encodes (part used (countOf cat t * w) cells))
 
-abbrev pub tableLength : Catalogue → List ℕ → ℕ → ℕ
-tableLength cat cells t = length (encode (schemeOf cat t)) + length (encode (countOf cat t)) + length (encodes (cellsOf cat cells t))
+abbrev pub tableLength : Catalogue → List ℕ → ℕ → ℕ → ℕ → ℕ
+tableLength cat cells t used w = length (encode (schemeOf cat t)) + length (encode (countOf cat t)) + length (encodes (part used (countOf cat t * w) cells))
 
+-- The bytes before the first table, and how many they are.
 abbrev pub headBytes : Catalogue → List ℕ
 headBytes cat = encode version ++ (encode (cat .m) ++ encode (cat .n))
 
@@ -173,21 +171,24 @@ headLength cat = length (encode version) + length (encode (cat .m)) + length (en
 length-three : (a b c : List ℕ) → length (a ++ (b ++ c)) ≡ length a + length b + length c
 length-three a b c = simp length-append (omega arith)
 
+pub head-three : (cat : Catalogue) → length (headBytes cat) ≡ headLength cat
+head-three cat = length-three (encode version) (encode (cat .m)) (encode (cat .n))
+
 module _ (cat : Catalogue) (cells : List ℕ) where
   pub image-none : (k t : ℕ) → k ≤ 0 → tablesImage k cat cells t ≡ []
   unfolding tablesImage
   image-none zero t z = refl
   image-none (suc k) t z = absurd (omega arith)
 
-  pub image-more : (k l t : ℕ) → k ≡ suc l → tablesImage k cat cells t ≡ tableBytes cat cells t ++ tablesImage l cat cells (t + 1)
+  image-more : (k l t : ℕ) → k ≡ suc l → tablesImage k cat cells t ≡ tableBytes cat cells t (firstCell cat t) (ones (schemeOf cat t)) ++ tablesImage l cat cells (t + 1)
   unfolding tablesImage
   image-more k l t e = rw e (simp append-assoc)
 
-  pub table-length : (k l t : ℕ) → k ≡ suc l → length (tablesImage k cat cells t) ≡ tableLength cat cells t + length (tablesImage l cat cells (t + 1))
-  table-length k l t e =
-      ap length (image-more k l t e)
-      ∙ length-append (tableBytes cat cells t) (tablesImage l cat cells (t + 1))
-      ∙ omega (arith, length-three (encode (schemeOf cat t)) (encode (countOf cat t)) (encodes (cellsOf cat cells t)))
+  image-length : (k l t : ℕ) → k ≡ suc l → length (tablesImage k cat cells t) ≡ length (tableBytes cat cells t (firstCell cat t) (ones (schemeOf cat t))) + length (tablesImage l cat cells (t + 1))
+  image-length k l t e = ap length (image-more k l t e) ∙ length-append (tableBytes cat cells t (firstCell cat t) (ones (schemeOf cat t))) (tablesImage l cat cells (t + 1))
+
+  table-three : (t : ℕ) → length (tableBytes cat cells t (firstCell cat t) (ones (schemeOf cat t))) ≡ tableLength cat cells t (firstCell cat t) (ones (schemeOf cat t))
+  table-three t = length-three (encode (schemeOf cat t)) (encode (countOf cat t)) (encodes (cellsOf cat cells t))
 
   pub image-head : imageOf cat cells ≡ headBytes cat ++ tablesImage (cat .n) cat cells 0
   unfolding imageOf
@@ -197,7 +198,7 @@ module _ (cat : Catalogue) (cells : List ℕ) where
   head-length =
       ap length image-head
       ∙ length-append (headBytes cat) (tablesImage (cat .n) cat cells 0)
-      ∙ omega (arith, length-three (encode version) (encode (cat .m)) (encode (cat .n)))
+      ∙ omega (arith, head-three cat)
 
   -- A number takes at most nine bytes, a table two numbers beside its cells.
   tables-few : (k t : ℕ) → length (tablesImage k cat cells t) + 9 * firstCell cat t ≤ 18 * k + 9 * firstCell cat (t + k)
@@ -207,31 +208,36 @@ module _ (cat : Catalogue) (cells : List ℕ) where
   tables-few (suc k) t =
       let e : t + suc k ≡ t + 1 + k = omega arith in
       let d = countOf cat t * ones (schemeOf cat t) in
-      rw e (omega (arith, table-length (suc k) k t refl, encode-few (schemeOf cat t), encode-few (countOf cat t), run-few cells (firstCell cat t) d, cells-next cat t, tables-few k (t + 1)))
+      rw e (omega (arith, image-length (suc k) k t refl, table-three t, encode-few (schemeOf cat t), encode-few (countOf cat t), run-few cells (firstCell cat t) d, cells-next cat t, tables-few k (t + 1)))
 
-  -- What table t of accepted tables has, where w is its width and its cells begin at `used`.
+  -- What table t of accepted tables has, where w is its width and its cells begin at `used`: with what is behind it, it makes what is left.
   pub record Table (t used w : ℕ) : Type 0 where
     pub scheme : schemeOf cat t < 2 ^ 63
     pub rows : countOf cat t ≤ mostRows
     pub most : used + countOf cat t * w ≤ mostCells
     pub inside : used + countOf cat t * w ≤ length cells
     pub low : tooHigh (part used (countOf cat t * w) cells) ≡ false
-    pub run : part used (countOf cat t * w) cells ≡ cellsOf cat cells t
     pub next : used + countOf cat t * w ≡ firstCell cat (t + 1)
+    pub bytes : tablesImage (cat .n - t) cat cells t ≡ tableBytes cat cells t used w ++ tablesImage (cat .n - (t + 1)) cat cells (t + 1)
+    pub size : length (tablesImage (cat .n - t) cat cells t) ≡ length (tableBytes cat cells t used w) + length (tablesImage (cat .n - (t + 1)) cat cells (t + 1))
+    pub three : length (tableBytes cat cells t used w) ≡ tableLength cat cells t used w
 
   pub table-good : writeFault cat cells ≡ 0 → (t used w : ℕ) → t < cat .n → used ≡ firstCell cat t → w ≡ ones (schemeOf cat t) → Table t used w
   table-good e t used w h u v =
       let A = fault-accepted cat cells e in
       let L = A .lawful in
       let ends = table-ends cat (length cells) L t h in
+      let k : cat .n - t ≡ suc (cat .n - (t + 1)) = omega arith in
       rw (u, v) (record {
         scheme = omega (arith, L .scheme t h, pow-le-pow-right {n = 2} (omega arith) (L .attributes));
         rows = L .rows t h;
         most = omega (arith, ends, L .cells);
         inside = omega (arith, ends, L .room);
         low = rows-low cells (ones (schemeOf cat t)) (countOf cat t) true 0 (firstCell cat t) (A .rows t h);
-        run = refl;
         next = sym (cells-next cat t);
+        bytes = image-more (cat .n - t) (cat .n - (t + 1)) t k;
+        size = image-length (cat .n - t) (cat .n - (t + 1)) t k;
+        three = table-three t;
       })
 
   -- The image is short, so no sum of its parts wraps.

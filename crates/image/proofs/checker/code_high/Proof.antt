@@ -1,9 +1,9 @@
 -- `image::checker::code_high` meets its contract. Invariant: no code passed is too high, so what is left decides. Assumes nothing.
 use borrow.Author.Needs.{needs}
 use native.Mathlib.Omega.{arith}
-use Prim.Native.Nat.{ℕ, _+_, _-_, _*_, _^_, _≤_, _<_}
-use mathlib.Core.Path.{_≡_, refl, sym, ap, _∙_}
-use lib.ListN.{length, getD}
+use Prim.Native.Nat.{_+_, _≤_}
+use mathlib.Core.Path.{_≡_, refl, sym, _∙_}
+use lib.ListN.{length}
 use Rattle.laws.specs.Lists.{part}
 use Rattle.image.specs.Write.{tooHigh}
 use Rattle.image.proofs.WriteLaws.{high-none, high-here, high-more}

@@ -1,10 +1,9 @@
 -- `image::checker::fault` meets its contract. Invariant: no table below t meets a refusal, so the whole answer is the answer from table t on. Assumes nothing.
 use borrow.Author.Needs.{needs}
 use native.Mathlib.Omega.{arith}
-use Prim.Native.Nat.{ℕ, _+_, _-_, _*_, _^_, _≤_, _<_}
-use mathlib.Core.Path.{_≡_, refl, sym, ap, _∙_}
-use lib.ListN.{length, getD}
-use lib.Count.{ones}
+use Prim.Native.Nat.{_+_, _-_, _≤_}
+use mathlib.Core.Path.{_≡_, refl, sym, _∙_}
+use lib.ListN.{length}
 use Rattle.tables.specs.Sizes.{mostAttributes, mostTables, mostCells}
 use Rattle.tables.specs.Catalogues.{schemeOf, countOf, firstCell}
 use Rattle.tables.proofs.CatalogueLaws.{cells-next}

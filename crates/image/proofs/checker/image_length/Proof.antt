@@ -1,18 +1,14 @@
 -- `image::checker::image_length` meets its contract. Invariant: the sum and the length of the tables that are left make the whole length. Assumes nothing.
 use borrow.Author.Needs.{needs}
 use native.Mathlib.Omega.{arith}
-use Prim.Native.Nat.{ℕ, _+_, _-_, _*_, _^_, _≤_, _<_}
-use mathlib.Core.Path.{_≡_, refl, sym, ap, _∙_}
-use lib.ListN.{length, getD}
-use mathlib.Core.List.{List}
-use lib.Count.{ones}
-use Rattle.laws.specs.Lists.{part}
-use Rattle.numbers.specs.Numbers.{encode}
+use Prim.Native.Nat.{_+_, _-_, _*_, _≤_}
+use mathlib.Core.Path.{_≡_, refl, ap}
+use lib.ListN.{length}
 use Rattle.tables.specs.Sizes.{mostTables, mostCells}
-use Rattle.tables.specs.Catalogues.{schemeOf, countOf, firstCell}
-use Rattle.image.specs.Write.{encodes, tablesImage, imageOf}
+use Rattle.tables.specs.Catalogues.{firstCell}
+use Rattle.image.specs.Write.{tablesImage, imageOf}
 use Rattle.image.proofs.AcceptLaws.{fault-accepted}
-use Rattle.image.proofs.WriteLaws.{Table, table-good, table-length, head-length, image-none, image-few}
+use Rattle.image.proofs.WriteLaws.{Table, table-good, head-length, image-none, image-few}
 use Rattle.image.proofs.checker.image_length.Statement.{statement}
 use Rattle.image.proofs.checker.image_length.Tie as tie
 
@@ -34,15 +30,6 @@ here : (c : tie.After-width Inv-loop μ-loop)
 here c =
     let l = c .before .before .before .before .loop in
     table-good _ _ (c .before .before .before .before .before .before .before .before .before .pre) (l .t) (l .used) (c .width .result) (omega arith) (l .inv .1) (c .width .ensures)
-
--- its share of what is left,
-left : (c : tie.After-width Inv-loop μ-loop)
-    → (let a = c .before .before .before .before .before .before .before .before .before .args in
-    let l = c .before .before .before .before .loop in
-    length (tablesImage (a .t1 .n - l .t) (a .t1) (a .cells .now) (l .t))
-    ≡ length (encode (schemeOf (a .t1) (l .t))) + length (encode (countOf (a .t1) (l .t))) + length (encodes (part (l .used) (countOf (a .t1) (l .t) * c .width .result) (a .cells .now)))
-    + length (tablesImage (a .t1 .n - (l .t + 1)) (a .t1) (a .cells .now) (l .t + 1)))
-left c = rw (here c .run) (table-length _ _ _ _ _ (omega arith))
 
 -- and the whole is short.
 short : (c : tie.After-width Inv-loop μ-loop)
@@ -101,7 +88,7 @@ size-requires-4 : tie.Need-size-requires-4 Inv-loop μ-loop
 size-requires-4 c κs = here c .scheme
 
 add-sum-3 : tie.Need-add-sum-3 Inv-loop μ-loop
-add-sum-3 c = omega (arith, c .size4 .ensures, left (c .before), c .before .before .before .before .before .loop .inv .2, short (c .before))
+add-sum-3 c = omega (arith, c .size4 .ensures, here (c .before) .size, here (c .before) .three, c .before .before .before .before .before .loop .inv .2, short (c .before))
 
 cast-size : tie.Need-cast-size Inv-loop μ-loop
 cast-size c = search needs
@@ -110,7 +97,7 @@ size-requires-5 : tie.Need-size-requires-5 Inv-loop μ-loop
 size-requires-5 c κs = omega (arith, here (c .before) .rows)
 
 add-sum-4 : tie.Need-add-sum-4 Inv-loop μ-loop
-add-sum-4 c = omega (arith, c .size5 .ensures, c .before .size4 .ensures, left (c .before .before), c .before .before .before .before .before .before .loop .inv .2, short (c .before .before))
+add-sum-4 c = omega (arith, c .size5 .ensures, c .before .size4 .ensures, here (c .before .before) .size, here (c .before .before) .three, c .before .before .before .before .before .before .loop .inv .2, short (c .before .before))
 
 run-size-requires : tie.Need-run-size-requires Inv-loop μ-loop
 run-size-requires c κs =
@@ -118,7 +105,7 @@ run-size-requires c κs =
     (g .inside, omega (arith, g .most), g .low)
 
 add-sum-5 : tie.Need-add-sum-5 Inv-loop μ-loop
-add-sum-5 c = omega (arith, c .run-size .ensures, c .before .size5 .ensures, c .before .before .size4 .ensures, left (c .before .before .before), c .before .before .before .before .before .before .before .loop .inv .2, short (c .before .before .before))
+add-sum-5 c = omega (arith, c .run-size .ensures, c .before .size5 .ensures, c .before .before .size4 .ensures, here (c .before .before .before) .size, here (c .before .before .before) .three, c .before .before .before .before .before .before .before .loop .inv .2, short (c .before .before .before))
 
 add-used : tie.Need-add-used Inv-loop μ-loop
 add-used c = omega (arith, here (c .before .before .before) .most)
@@ -132,7 +119,7 @@ loop-less c = search needs
 loop-again : tie.Need-loop-again Inv-loop μ-loop
 loop-again c =
     let l = c .before .before .before .before .before .before .before .loop in
-    (omega arith, here (c .before .before .before) .next, omega (arith, c .run-size .ensures, c .before .size5 .ensures, c .before .before .size4 .ensures, left (c .before .before .before), l .inv .2), l .inv .3)
+    (omega arith, here (c .before .before .before) .next, omega (arith, c .run-size .ensures, c .before .size5 .ensures, c .before .before .size4 .ensures, here (c .before .before .before) .size, here (c .before .before .before) .three, l .inv .2), l .inv .3)
 
 returns : tie.Need-returns Inv-loop μ-loop
 returns c =

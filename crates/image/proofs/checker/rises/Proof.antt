@@ -1,9 +1,9 @@
 -- `image::checker::rises` meets its contract. Invariant: all codes passed are equal, so the rows that are left decide. Assumes nothing.
 use borrow.Author.Needs.{needs}
 use native.Mathlib.Omega.{arith}
-use Prim.Native.Nat.{ℕ, _+_, _-_, _*_, _^_, _≤_, _<_}
-use mathlib.Core.Path.{_≡_, refl, sym, ap, _∙_}
-use lib.ListN.{length, getD}
+use Prim.Native.Nat.{_+_, _≤_}
+use mathlib.Core.Path.{_≡_, refl, sym, _∙_}
+use lib.ListN.{length}
 use Rattle.laws.specs.Lists.{part}
 use Rattle.laws.proofs.ListLaws.{part-none, part-more}
 use Rattle.tables.specs.Rows.{below}

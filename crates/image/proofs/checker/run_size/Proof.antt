@@ -1,11 +1,10 @@
 -- `image::checker::run_size` meets its contract. Invariant: the sum and the length of what is left make the whole length. Assumes nothing.
 use borrow.Author.Needs.{needs}
 use native.Mathlib.Omega.{arith}
-use Prim.Native.Nat.{ℕ, _+_, _-_, _*_, _^_, _≤_, _<_}
-use mathlib.Core.Path.{_≡_, refl, sym, ap, _∙_}
-use lib.ListN.{length, getD}
+use Prim.Native.Nat.{_+_, _≤_}
+use mathlib.Core.Path.{_≡_, ap}
+use lib.ListN.{length}
 use Rattle.laws.specs.Lists.{part}
-use Rattle.numbers.specs.Numbers.{encode}
 use Rattle.image.specs.Write.{encodes, tooHigh}
 use Rattle.image.proofs.WriteLaws.{low-next, run-none, run-length, run-few}
 use mathlib.Core.Bool.{false}

@@ -1,11 +1,7 @@
 -- `image::putter::put_number` meets its contract: the part that was lent came back with the number's bytes in its front. Assumes nothing.
 use native.Mathlib.Omega.{arith}
-use Prim.Native.Nat.{ℕ, _+_, _-_, _*_, _^_, _≤_, _<_}
-use mathlib.Core.Path.{_≡_, refl, sym, ap, _∙_}
-use lib.ListN.{length, getD}
 use borrow.Author.Needs.{needs}
 use Rattle.laws.proofs.ListLaws.{lent}
-use Rattle.image.specs.Write.{Placed}
 use Rattle.numbers.specs.Numbers.{encode}
 use Rattle.image.proofs.putter.put_number.Statement.{statement}
 use Rattle.image.proofs.putter.put_number.Tie as tie

@@ -1,13 +1,12 @@
 -- `image::putter::put_run` meets its contract. Invariant: the numbers that are left, from the cursor on, make the whole answer. Assumes nothing.
 use borrow.Author.Needs.{needs}
 use native.Mathlib.Omega.{arith}
-use Prim.Native.Nat.{ℕ, _+_, _-_, _*_, _^_, _≤_, _<_}
-use mathlib.Core.Path.{_≡_, refl, sym, ap, _∙_}
-use lib.ListN.{length, getD}
+use Prim.Native.Nat.{_+_, _≤_}
+use mathlib.Core.Path.{_≡_, sym, ap, _∙_}
+use lib.ListN.{length}
 use mathlib.Core.Bool.{false}
 use Rattle.laws.specs.Lists.{part, over}
 use Rattle.laws.proofs.ListLaws.{put-nil}
-use Rattle.numbers.specs.Numbers.{encode}
 use Rattle.image.specs.Write.{encodes, tooHigh}
 use Rattle.image.proofs.WriteLaws.{low-next, run-none, run-more, run-length, placed-length, placed-rest}
 use Rattle.image.proofs.putter.put_run.Statement.{statement}

@@ -1,8 +1,5 @@
 -- `image::putter::put_table` meets its contract: three parts, each placed behind the one before, are one. Assumes nothing.
 use native.Mathlib.Omega.{arith}
-use Prim.Native.Nat.{ℕ, _+_, _-_, _*_, _^_, _≤_, _<_}
-use mathlib.Core.Path.{_≡_, refl, sym, ap, _∙_}
-use lib.ListN.{length, getD}
 use borrow.Author.Needs.{needs}
 use Rattle.image.proofs.WriteLaws.{placed-length, placed-append}
 use Rattle.image.proofs.putter.put_table.Statement.{statement}
