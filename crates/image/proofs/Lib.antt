@@ -3,6 +3,7 @@ pub mod LoadLaws
 pub mod SoundLaws
 pub mod PlaceLaws
 pub mod AcceptLaws
+pub mod WriteLaws
 pub mod ThereLaws
 pub mod BackLaws
 pub mod RoundTrip

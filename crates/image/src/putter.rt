@@ -6,6 +6,7 @@ ghost use Prim.Native.Nat.{_+_, _^_, _≤_, _<_};
 ghost use lib.ListN.{length};
 ghost use Rattle.laws.specs.Lists.{put, part};
 ghost use Rattle.numbers.specs.Numbers.{encode};
+ghost use Rattle.image.specs.Load.{version};
 ghost use Rattle.image.specs.Write.{encodes, imageOf, tooHigh, writeFault, Placed};
 use tables::Catalogue;
 
@@ -34,6 +35,16 @@ fn put_run(cells: &[u64], from: usize, count: usize, out: &mut [u8], start: usiz
     at
 }
 
+// Writes the image's head: version, m and n.
+fn put_head(m: u64, n: u64, out: &mut [u8]) -> usize
+    requires { ⌜ (m < 2 ^ 63) × (n < 2 ^ 63) × (length (encode version) + length (encode m) + length (encode n) ≤ length (now out)) ⌝ }
+    ensures { λ r. ⌜ Placed (encode version ++ (encode m ++ encode n)) 0 (now (out .entry)) r (now (out .exit)) ⌝ }
+{
+    let behind_version = put_number(1, out, 0);
+    let behind_m = put_number(m, out, behind_version);
+    put_number(n, out, behind_m)
+}
+
 // Writes one table: its scheme, its row count and its cells.
 fn put_table(
     scheme: u64,
@@ -52,15 +63,13 @@ fn put_table(
     put_run(cells, from, count, out, behind_count)
 }
 
-// Writes the whole image: version, m, n, and table by table.
+// Writes the whole image: its head, then table by table.
 pub fn put_image(cat: Catalogue, cells: &[u64], out: &mut [u8])
     requires { ⌜ (writeFault cat (now cells) ≡ 0) × (length (imageOf cat (now cells)) ≤ length (now out)) ⌝ }
     ensures { λ _. ⌜ now (out .exit) ≡ put (imageOf cat (now (cells .entry))) (now (out .entry)) ⌝ }
 {
     let n = cat.n;
-    let behind_version = put_number(1, out, 0);
-    let behind_m = put_number(cat.m as u64, out, behind_version);
-    let mut at = put_number(n as u64, out, behind_m);
+    let mut at = put_head(cat.m as u64, n as u64, out);
     let mut used: usize = 0;
     let mut t: usize = 0;
     while t < n {
