@@ -5,8 +5,8 @@ ghost use lib.ListN.{length};
 ghost use Rattle.laws.specs.Lists.{put, part, tab};
 ghost use Rattle.abi.specs.Words.{catalogueWords, wordsOf, countIn, catalogueIn};
 ghost use Rattle.abi.specs.Calls.{LoadCall, WriteCall};
-use tables::Catalogue;
 use image::Written;
+use tables::Catalogue;
 
 // Copies eight schemes into the front of the lent words.
 fn put_schemes(schemes: [u64; 8], words: &mut [u64])

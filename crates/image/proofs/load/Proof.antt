@@ -10,20 +10,13 @@ use Rattle.image.specs.declared.Loaded.{Loaded}
 use Rattle.image.proofs.SoundLaws.{scan-sound}
 use Rattle.image.proofs.load.Statement.{statement}
 use Rattle.image.proofs.load.Tie as tie
-use Rattle.image.proofs.load.Reads as reads
-use Rattle.image.proofs.load.Lts as lts
-use Rattle.image.proofs.filler.fill.Reads as fill-reads
-use Rattle.image.proofs.scanner.scan.Reads as scan-reads
 
--- src/lib.rt:56:9
 scan-requires : tie.Need-scan-requires
 scan-requires c κs = search needs
 
--- src/lib.rt:60:48
 enum-told : tie.Need-enum-told
 enum-told c = search needs
 
--- src/lib.rt:60:13
 fill-requires : tie.Need-fill-requires
 fill-requires c κs =
     let a = c .before .before .before .before .before .before .args in
@@ -32,15 +25,12 @@ fill-requires c κs =
     let h = scan-sound (a .image .now) (length (a .cells .now)) (λ k. omega (arith, c .before .before .before .before .before .shared-slice-known .given k)) g in
     rw e (_, h)
 
--- src/lib.rt:63:35
 enum-told-2 : tie.Need-enum-told-2
 enum-told-2 c = search needs
 
--- src/lib.rt:53:1
 same-length : tie.Need-same-length
 same-length c = search needs
 
--- src/lib.rt:53:1
 returns : tie.Need-returns
 returns c =
     record {
@@ -48,7 +38,6 @@ returns c =
       cells = rw (c .before .before .before .before .enum-told .given .1) (c .before .before .fill .ensures);
     }
 
--- src/lib.rt:53:1
 returns-2 : tie.Need-returns-2
 returns-2 c = record { answer = c .before .before .scan .ensures; cells = rw (c .enum-told2 .given .1) }
 

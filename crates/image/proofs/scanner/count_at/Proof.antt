@@ -10,12 +10,6 @@ use denote.Ref.{now}
 use Rattle.image.specs.declared.Entry.the-variants.{TableFault}
 use Rattle.image.proofs.scanner.count_at.Statement.{statement}
 use Rattle.image.proofs.scanner.count_at.Tie as tie
-use Rattle.image.proofs.scanner.count_at.Reads as reads
-use Rattle.image.proofs.scanner.count_at.Lts as lts
-use Rattle.image.proofs.scanner.rows_entry.Reads as rows-entry-reads
-use Rattle.numbers.proofs.read.Reads as read-reads
-use Rattle.tables.proofs.count_fault.Reads as count-fault-reads
-use Rattle.tables.proofs.width.Reads as width-reads
 
 -- Where the count is good.
 counted : (c : tie.After-width)
@@ -23,56 +17,45 @@ counted : (c : tie.After-width)
     Counted (a .room) (a .used) (a .scheme) (c .before .before .before .before .rows .given .0 .0)
 counted c = fault-counted _ _ _ _ (sym (c .before .before .count-fault .ensures) ∙ c .before .if1 .left)
 
--- src/scanner.rt:111:11
 read-requires : tie.Need-read-requires
 read-requires c κs = search needs
 
--- src/scanner.rt:112:25
 enum-known-rows : tie.Need-enum-known-rows
 enum-known-rows c = search needs
 
--- src/scanner.rt:113:17
 count-fault-requires : tie.Need-count-fault-requires
 count-fault-requires c κs = search needs
 
--- src/scanner.rt:115:17
 returns : tie.Need-returns
 returns c =
     let r = c .before .before .before in
     let f = c .before .count-fault .ensures in
     (ap (λ (k : ℕ). TableFault k (c .before .before .before .before .before .before .before .args .at)) f) ∙ sym (count-fault _ _ _ _ _ _ _ (sym (r .before .before .read .ensures) ∙ r .rows .given .1) (λ e. c .if1 .taken (f ∙ e)))
 
--- src/scanner.rt:117:50
 width-requires : tie.Need-width-requires
 width-requires c κs = search needs
 
--- src/scanner.rt:117:32
 mul-cells : tie.Need-mul-cells
 mul-cells c =
     let k = counted c in
     rw (c .width .ensures) (omega arith)
 
--- src/scanner.rt:117:25
 add-cells : tie.Need-add-cells
 add-cells c =
     let k = counted c in
     rw (c .width .ensures) (omega arith)
 
--- src/scanner.rt:118:35
 cast-rows-entry : tie.Need-cast-rows-entry
 cast-rows-entry c =
     let k = counted c in
     omega (arith, k .few)
 
--- src/scanner.rt:118:13
 rows-entry-requires : tie.Need-rows-entry-requires
 rows-entry-requires c κs = search needs
 
--- src/scanner.rt:120:30
 enum-known-k : tie.Need-enum-known-k
 enum-known-k c = search needs
 
--- src/scanner.rt:107:1
 returns-2 : tie.Need-returns-2
 returns-2 c =
     let w = c .before in
@@ -80,7 +63,6 @@ returns-2 c =
     let f = w .before .before .count-fault .ensures in
     c .rows-entry .ensures ∙ rw (w .width .ensures) (sym (count-rows _ _ _ _ _ _ _ (sym (r .before .before .read .ensures) ∙ r .rows .given .1) (sym f ∙ w .before .if1 .left)))
 
--- src/scanner.rt:107:1
 returns-3 : tie.Need-returns-3
 returns-3 c = sym (count-bad _ _ _ _ _ _ (sym (c .before .before .before .read .ensures) ∙ c .before .k .given .1))
 

@@ -7,45 +7,32 @@ use borrow.Author.Needs.{needs}
 use Rattle.image.proofs.LoadLaws.{table-bad, table-scheme, table-count}
 use Rattle.image.proofs.scanner.table_at.Statement.{statement}
 use Rattle.image.proofs.scanner.table_at.Tie as tie
-use Rattle.image.proofs.scanner.table_at.Reads as reads
-use Rattle.image.proofs.scanner.table_at.Lts as lts
-use Rattle.image.proofs.scanner.count_at.Reads as count-at-reads
-use Rattle.numbers.proofs.read.Reads as read-reads
-use Rattle.tables.proofs.scheme_bad.Reads as scheme-bad-reads
 
--- src/scanner.rt:130:11
 read-requires : tie.Need-read-requires
 read-requires c κs = search needs
 
--- src/scanner.rt:131:25
 enum-known-scheme : tie.Need-enum-known-scheme
 enum-known-scheme c = search needs
 
--- src/scanner.rt:132:16
 scheme-bad-requires : tie.Need-scheme-bad-requires
 scheme-bad-requires c κs = search needs
 
--- src/scanner.rt:133:17
 returns : tie.Need-returns
 returns c =
     let r = c .before .before .before in
     sym (table-scheme _ _ _ _ _ _ _ (sym (r .before .before .read .ensures) ∙ r .scheme .given .1) (sym (c .before .scheme-bad .ensures) ∙ c .if1 .taken))
 
--- src/scanner.rt:135:13
 count-at-requires : tie.Need-count-at-requires
 count-at-requires c κs = search needs
 
--- src/scanner.rt:137:30
 enum-known-k : tie.Need-enum-known-k
 enum-known-k c = search needs
 
--- src/scanner.rt:126:1
 returns-2 : tie.Need-returns-2
 returns-2 c =
     let r = c .before .before .before .before in
     c .count-at .ensures ∙ sym (table-count _ _ _ _ _ _ _ (sym (r .before .before .read .ensures) ∙ r .scheme .given .1) (sym (c .before .before .scheme-bad .ensures) ∙ c .before .if1 .left))
 
--- src/scanner.rt:126:1
 returns-3 : tie.Need-returns-3
 returns-3 c = sym (table-bad _ _ _ _ _ _ (sym (c .before .before .before .read .ensures) ∙ c .before .k .given .1))
 
