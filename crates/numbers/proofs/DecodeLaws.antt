@@ -7,11 +7,15 @@ use mathlib.Core.Path.{_≡_, refl, sym, ap, _∙_}
 use mathlib.Core.List.{List}
 use mathlib.Core.Bool.{Bool, true, false, cond, _&&_}
 use lib.ListN.{length, getD}
-use lib.Dec.{ltb, eqb}
+use lib.Dec.{ltb, leb, eqb}
 use borrow.Author.Tests.{lt-ltb, lt-leb, le-leb, eq-eqb}
 use Rattle.numbers.specs.declared.Reading.{Reading}
 use Rattle.numbers.specs.declared.Reading.the-variants.{Number, NumberFault}
+<<<<<<< HEAD
 use Rattle.numbers.specs.Numbers.{decodeIn}
+=======
+use Rattle.numbers.specs.Numbers.{mostBytes, decodeIn, decode}
+>>>>>>> image-wip
 
 pub decode-none : (f w v : ℕ) (s : List ℕ) (i : ℕ) → f ≤ 0 → decodeIn f w v s i ≡ NumberFault 2
 decode-none zero w v s i p = refl
@@ -35,6 +39,10 @@ pub decode-more : (f w v : ℕ) (s : List ℕ) (i : ℕ) → 0 < f → i < lengt
 decode-more zero w v s i p h l = absurd (omega arith)
 decode-more (suc f) w v s i p h l = rw (sub-one (suc f), lt-leb (length s) i h, le-leb 128 (getD s i 0) l)
 
+-- a refusal is no number
+pub no-number : {A : Type 0} (o : Reading) (k r n : ℕ) → o ≡ NumberFault k → o ≡ Number r n → A
+no-number o k r n p q = absurd (let z : _≡_ {A = ℕ} 0 1 = cc in omega arith)
+
 -- a weight with room for f groups more
 pub pos128 : (f : ℕ) → 1 ≤ 128 ^ f
 pos128 zero = omega arith
@@ -53,3 +61,29 @@ less-room (suc f) w p h = rw (sub-one (suc f), mul-assoc, mul-comm 128 (128 ^ f)
 -- a group is at most 127
 pub group : (g w : ℕ) → g < 128 → g * w ≤ 127 * w
 group g w h = mul-le-mul-right w (omega arith)
+
+-- The place behind a number lies at most f bytes on, and a refusal is 1 or 2.
+abbrev pub Near : ℕ → Reading → Type 0
+Near b (Number x n) = n ≤ b
+Near b (NumberFault k) = k ≤ 2
+
+near-on : (i f : ℕ) (r : Reading) → Near (i + 1 + f) r → Near (i + suc f) r
+near-on i f (Number x n) h = omega arith
+near-on i f (NumberFault k) h = h
+
+near-step : (f i v : ℕ) (r : Reading) (b₁ b₂ b₃ : Bool) → Near (i + 1 + f) r
+    → Near (i + suc f) (cond b₁ (NumberFault 1) (cond b₂ r (cond b₃ (NumberFault 2) (Number v (i + 1)))))
+near-step f i v r true b₂ b₃ h = omega arith
+near-step f i v r false true b₃ h = near-on i f r h
+near-step f i v r false false true h = omega arith
+near-step f i v r false false false h = omega arith
+
+near-in : (f w v : ℕ) (s : List ℕ) (i : ℕ) → Near (i + f) (decodeIn f w v s i)
+near-in zero w v s i = omega arith
+near-in (suc f) w v s i =
+    near-step f i (v + getD s i 0 * w) (decodeIn f (w * 128) (v + (getD s i 0 - 128) * w) s (i + 1)) (leb (length s) i) (leb 128 (getD s i 0)) (ltb 1 w && eqb (getD s i 0) 0)
+    (near-in f (w * 128) (v + (getD s i 0 - 128) * w) s (i + 1))
+
+pub decode-near : (s : List ℕ) (i : ℕ) → Near (i + mostBytes) (decode s i)
+unfolding decode
+decode-near s i = near-in mostBytes 1 0 s i

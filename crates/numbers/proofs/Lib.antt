@@ -1,4 +1,3 @@
 pub mod EncodeLaws
 pub mod DecodeLaws
 pub mod RoundTrip
-pub mod Edges

@@ -15,7 +15,7 @@ use Rattle.numbers.specs.declared.Reading.{Reading}
 use Rattle.numbers.specs.declared.Reading.the-variants.{Number, NumberFault}
 use Rattle.numbers.specs.Numbers.{encodeIn, encode, decodeIn, decode}
 use Rattle.numbers.proofs.EncodeLaws.{more-in, last-in}
-use Rattle.numbers.proofs.DecodeLaws.{decode-none, decode-end, decode-zero, decode-last, decode-more, pos128}
+use Rattle.numbers.proofs.DecodeLaws.{decode-none, decode-end, decode-zero, decode-last, decode-more, pos128, no-number}
 
 -- a number's value from its low group and the rest
 groups : (x w v b : ℕ) → b ≡ 128 + x % 128 → v + (b - 128) * w + x / 128 * (w * 128) ≡ v + x * w
@@ -78,9 +78,12 @@ pub record Bytes (f w v : ℕ) (s : List ℕ) (i r n : ℕ) : Type 0 where
   pub bytes : drop i s ≡ encodeIn f x ++ drop n s
   pub ended : 1 < w → 0 < x
 
+<<<<<<< HEAD
 pub no-number : {A : Type 0} (o : Reading) (k r n : ℕ) → o ≡ NumberFault k → o ≡ Number r n → A
 no-number o k r n p q = absurd (let z : _≡_ {A = ℕ} 0 1 = cc in omega arith)
 
+=======
+>>>>>>> image-wip
 module _ (f w v : ℕ) (s : List ℕ) (i r n : ℕ) (pos : 0 < w) (e : decodeIn (suc f) w v s i ≡ Number r n) (l : i < length s) where
   last-bytes : getD s i 0 < 128 → (1 < w → 0 < getD s i 0) → Bytes (suc f) w v s i r n
   last-bytes k q =

@@ -1,0 +1,428 @@
+-- Writing what was loaded: a number has one form only, so each part that was read without fault is what the writer puts there. Assumes nothing.
+use Prim.Native.Nat.{ℕ, zero, suc, _+_, _-_, _*_, _^_, _<_, _≤_}
+use native.Mathlib.Nat.{zero-add, zero-mul}
+use native.Mathlib.Omega.{arith}
+use mathlib.Core.Path.{_≡_, refl, sym, ap, subst, _∙_}
+use mathlib.Core.Logic.{_⊎_, inl, inr, ⊎-elim}
+use mathlib.Core.Bool.{Bool, true, false, cond, _||_}
+use mathlib.Core.List.{List, _∷_, _++_, append-assoc}
+use lib.ListN.{length, getD, set, drop, replicate, length-append, length-drop, length-set, length-replicate, getD-replicate, take-append-drop, drop-of-length-le}
+use lib.Seq.{ext-getD, getD-drop, getD-set-same, getD-set-other}
+use lib.Count.{ones}
+use lib.Dec.{ltb}
+use borrow.Author.Tests.{lt-leb, ltb-false}
+use Rattle.laws.specs.Lists.{part}
+use Rattle.numbers.specs.Numbers.{encode, decode}
+use Rattle.numbers.specs.declared.Reading.{Reading}
+use Rattle.numbers.specs.declared.Reading.the-variants.{Number, NumberFault}
+use Rattle.numbers.proofs.RoundTrip.{encode-decode}
+use Rattle.tables.specs.declared.Catalogue.{Catalogue}
+use Rattle.tables.specs.Catalogues.{schemeOf, countOf, firstCell}
+use Rattle.tables.specs.Sizes.{mostAttributes, mostTables}
+use Rattle.tables.specs.Rows.{below}
+use Rattle.tables.specs.Checks.{outside, badScheme, countFault, tableFault}
+use Rattle.tables.proofs.CatalogueLaws.{cells-next}
+use Rattle.tables.proofs.CheckLaws.{faultAt, table-count, fault-clear, InRange}
+use Rattle.image.specs.declared.Walk.{Walk}
+use Rattle.image.specs.declared.Walk.the-variants.{To, Fault}
+use Rattle.image.specs.declared.Field.{Field}
+use Rattle.image.specs.declared.Field.the-variants.{Value, FieldFault}
+use Rattle.image.specs.declared.Entry.{Entry}
+use Rattle.image.specs.declared.Entry.the-variants.{Table, TableFault}
+use Rattle.image.specs.declared.Loaded.{Loaded}
+use Rattle.image.specs.Reading.{onNumber, onWalk, runEnd, codes, rowsFrom}
+use Rattle.image.specs.Load.{version, firstTable, fieldAt, onField, onFault, entryOf, countAt, tableAt, onEntry, refused, tablesFrom, scanOf, tablesCodes}
+use Rattle.image.specs.Write.{encodes, cellsOf, tablesImage, tooHigh, rowsFault, tablesRefusal}
+use Rattle.image.specs.RoundTrip.{front, trimmed, found}
+use Rattle.image.proofs.AcceptLaws.{rowsAt, refusal-none, refusal-more}
+use Rattle.image.proofs.ThereLaws.{part-stands, row-cells, or-clear, one-byte, table-codes}
+
+-- ---- an answer that is no refusal came by the way that goes on
+
+module _ {A : Type 0} (a : A) where
+  number-was : {P : Type 0} (d : Reading) (go : ℕ → ℕ → A) (refuse : ℕ → A) → ((k : ℕ) → refuse k ≡ a → ⊥) → onNumber d go refuse ≡ a
+      → ((x n : ℕ) → d ≡ Number x n → go x n ≡ a → P) → P
+  number-was (Number x n) go refuse z e f = f x n refl e
+  number-was (NumberFault k) go refuse z e f = absurd (z k e)
+
+  entry-was : {P : Type 0} (d : Entry) (go : ℕ → ℕ → ℕ → ℕ → A) (refuse : ℕ → ℕ → A) → ((k p : ℕ) → refuse k p ≡ a → ⊥) → onEntry d go refuse ≡ a
+      → ((x c u e : ℕ) → d ≡ Table x c u e → go x c u e ≡ a → P) → P
+  entry-was (Table x c u e) go refuse z q f = f x c u e refl q
+  entry-was (TableFault k p) go refuse z q f = absurd (z k p q)
+
+  cond-was : (b : Bool) (x y : A) → (x ≡ a → ⊥) → cond b x y ≡ a → (b ≡ false) × (y ≡ a)
+  cond-was true x y z e = absurd (z e)
+  cond-was false x y z e = (refl, e)
+
+  fault-was : (f : ℕ) (refuse : ℕ → A) (y : A) → ((k : ℕ) → refuse k ≡ a → ⊥) → onFault f refuse y ≡ a → (f ≡ 0) × (y ≡ a)
+  fault-was zero refuse y z e = (refl, e)
+  fault-was (suc k) refuse y z e = absurd (z (suc k) e)
+
+no-walk : (k p e : ℕ) → Fault k p ≡ To e → ⊥
+no-walk k p e q = let z : _≡_ {A = ℕ} 0 1 = cc in omega arith
+
+no-table : (k p x c u e : ℕ) → TableFault k p ≡ Table x c u e → ⊥
+no-table k p x c u e q = let z : _≡_ {A = ℕ} 0 1 = cc in omega arith
+
+no-field : (k p x n : ℕ) → FieldFault k p ≡ Value x n → ⊥
+no-field k p x n q = let z : _≡_ {A = ℕ} 0 1 = cc in omega arith
+
+no-good : (k p : ℕ) (cat : Catalogue) → refused k p ≡ found cat → ⊥
+no-good k p cat q =
+    let v = ap (λ (l : Loaded). l .verdict) q in
+    let z : _≡_ {A = ℕ} 0 1 = cc in
+    omega arith
+
+field-was : {P : Type 0} (d : Field) (go : ℕ → ℕ → Loaded) (cat : Catalogue) → onField d go ≡ found cat → ((x n : ℕ) → d ≡ Value x n → go x n ≡ found cat → P) → P
+field-was (Value x n) go cat e f = f x n refl e
+field-was (FieldFault k p) go cat e f = absurd (no-good k p cat e)
+
+-- ---- numbers one after the other
+
+run-was : (k : ℕ) (s : List ℕ) (i e : ℕ) → runEnd (suc k) s i ≡ To e → (x : ℕ) × (n : ℕ) × (decode s i ≡ Number x n) × (runEnd k s n ≡ To e)
+unfolding runEnd
+run-was k s i e q = number-was (To e) (decode s i) (λ x n. runEnd k s n) (λ f. Fault f i) (λ f. no-walk f i e) q (λ x n d r. (x, n, d, r))
+
+-- w numbers and k behind them
+run-add : (w k : ℕ) (s : List ℕ) (i n : ℕ) → runEnd w s i ≡ To n → (runEnd (w + k) s i ≡ runEnd k s n) × (codes (w + k) s i ≡ codes w s i ++ codes k s n)
+unfolding runEnd codes
+run-add zero k s i n e = let q : i ≡ n = cc in (rw (zero-add, q), rw (zero-add, q))
+run-add (suc w) k s i n e =
+    let t = run-was w s i n e in
+    let a = run-add w k s (t .1) n (t .3) in
+    let m : suc w + k ≡ suc (w + k) = omega arith in
+    (rw (m, t .2) (a .0), rw (m, t .2) (ap (λ (l : List ℕ). t .0 ∷ l) (a .1)))
+
+-- What k numbers that were read say of the bytes.
+record Run (k : ℕ) (s : List ℕ) (i e : ℕ) : Type 0 where
+  bytes : drop i s ≡ encodes (codes k s i) ++ drop e s
+  low : tooHigh (codes k s i) ≡ false
+  long : length (codes k s i) ≡ k
+
+run-bytes : (s : List ℕ) → ((k : ℕ) → getD s k 0 < 256) → (k i e : ℕ) → runEnd k s i ≡ To e → Run k s i e
+unfolding runEnd codes encodes tooHigh
+run-bytes s by zero i e q = let p : i ≡ e = cc in record { bytes = rw p; low = refl; long = refl }
+run-bytes s by (suc k) i e q =
+    let t = run-was k s i e q in
+    let x = t .0 in
+    let f = encode-decode s i x (t .1) by (t .2) in
+    let r = run-bytes s by k (t .1) e (t .3) in
+    record {
+      bytes = rw (t .2, f .bytes, r .bytes) (sym (append-assoc (encode x) (encodes (codes k s (t .1))) (drop e s)));
+      low = rw (t .2, lt-leb (2 ^ 63) x (f .small)) (r .low);
+      long = rw (t .2) (ap suc (r .long));
+    }
+
+-- ---- rows
+
+rows-was : (k w : ℕ) (s : List ℕ) (first : Bool) (p i e : ℕ) → rowsFrom (suc k) w s first p i ≡ To e
+    → (n : ℕ) × (runEnd w s i ≡ To n) × ((first || below (codes w s p) (codes w s i)) ≡ true) × (rowsFrom k w s false i n ≡ To e)
+unfolding rowsFrom
+rows-was k w s first p i e q = by-walk (runEnd w s i) (first || below (codes w s p) (codes w s i)) (λ n. rowsFrom k w s false i n) q
+  where
+    by-walk : (d : Walk) (b : Bool) (go : ℕ → Walk) → onWalk d (λ n. cond b (go n) (Fault 7 i)) ≡ To e → (n : ℕ) × (d ≡ To n) × (b ≡ true) × (go n ≡ To e)
+    by-walk (To n) true go q = (n, refl, refl, q)
+    by-walk (To n) false go q = absurd (no-walk 7 i e q)
+    by-walk (Fault f y) b go q = absurd (no-walk f y e q)
+
+-- The numbers of rows that were read lie one after the other.
+rows-run : (k w : ℕ) (s : List ℕ) (first : Bool) (p i e : ℕ) → rowsFrom k w s first p i ≡ To e → runEnd (k * w) s i ≡ To e
+unfolding runEnd rowsFrom
+rows-run zero w s first p i e q = rw zero-mul q
+rows-run (suc k) w s first p i e q =
+    let t = rows-was k w s first p i e q in
+    rw (row-cells k w) (run-add w (k * w) s i (t .0) (t .1) .0 ∙ rows-run k w s false i (t .0) e (t .3))
+
+-- Rows that were read without fault are not refused by the writer, where their codes lie in the cells from `at` on. `same`: the row before them was written
+-- as it was read, unless they are the first.
+rows-back : (s : List ℕ) → ((k : ℕ) → getD s k 0 < 256) → (k w : ℕ) (cells : List ℕ) (first : Bool) (before at p i e : ℕ) (r : List ℕ) → rowsFrom k w s first p i ≡ To e
+    → ((ys : List ℕ) → (first || below (part before w cells) ys) ≡ (first || below (codes w s p) ys)) → drop at cells ≡ codes (k * w) s i ++ r
+    → rowsFault k w cells first before at ≡ 0
+unfolding rowsFault
+rows-back s by zero w cells first before at p i e r q same d = refl
+rows-back s by (suc k) w cells first before at p i e r q same d =
+    let t = rows-was k w s first p i e q in
+    let n = t .0 in
+    let row = codes w s i in
+    let run = run-bytes s by w i n (t .1) in
+    let all : drop at cells ≡ row ++ (codes (k * w) s n ++ r) = d ∙ rw (row-cells k w, run-add w (k * w) s i n (t .1) .1) (append-assoc row (codes (k * w) s n) r) in
+    let here = part-stands cells at w row (codes (k * w) s n ++ r) (run .long) all in
+    let later = rows-back s by k w cells false at (at + w) i n e r (t .3) (λ ys. rw (here .0)) (here .1) in
+    rw (here .0, run .low, same row, t .2) later
+
+-- ---- a table
+
+-- What a good entry says of its table: where its numbers stand, that no check refuses it, its cells, and that its rows rise.
+record TableBack (s : List ℕ) (room m used i x c u e : ℕ) : Type 0 where
+  n : ℕ
+  q : ℕ
+  scheme : decode s i ≡ Number x n
+  count : decode s n ≡ Number c q
+  clear : tableFault m room used x c ≡ 0
+  cells : u ≡ used + c * ones x
+  rows : rowsFrom c (ones x) s true 0 q ≡ To e
+
+-- A table whose parts were read without fault, and whose entry is the one given.
+table-of : (s : List ℕ) (room m used i y n b q x c u e : ℕ) (d : Walk) → decode s i ≡ Number y n → decode s n ≡ Number b q → tableFault m room used y b ≡ 0
+    → rowsFrom b (ones y) s true 0 q ≡ d → entryOf y b (used + b * ones y) d ≡ Table x c u e → TableBack s room m used i x c u e
+table-of s room m used i y n b q x c u e (Fault k p) scheme count clear rows h = absurd (no-table k p x c u e h)
+table-of s room m used i y n b q x c u e (To z) scheme count clear rows h =
+    let ex : y ≡ x = cc in
+    let ec : b ≡ c = cc in
+    let eu : used + b * ones y ≡ u = cc in
+    let ee : z ≡ e = cc in
+    record {
+      n = n;
+      q = q;
+      scheme = rw ex at scheme;
+      count = rw ec at count;
+      clear = rw (ex, ec) at clear;
+      cells = rw (← ex, ← ec) (sym eu);
+      rows = rw (ex, ec, ee) at rows;
+    }
+
+module _ (s : List ℕ) (room m used x c u e : ℕ) where
+  count-was : (i y n : ℕ) → decode s i ≡ Number y n → badScheme m y ≡ false → countAt s room y used n ≡ Table x c u e → TableBack s room m used i x c u e
+  unfolding countAt
+  count-was i y n scheme good h =
+      let entry : ℕ → ℕ → Entry = λ b q. entryOf y b (used + b * ones y) (rowsFrom b (ones y) s true 0 q) in
+      number-was (Table x c u e) (decode s n) (λ b q. onFault (countFault room used y b) (λ k. TableFault k n) (entry b q)) (λ f. TableFault f n) (λ f. no-table f n x c u e) h
+      (λ b q count g.
+      let f = fault-was (Table x c u e) (countFault room used y b) (λ k. TableFault k n) (entry b q) (λ k. no-table k n x c u e) g in
+      table-of s room m used i y n b q x c u e (rowsFrom b (ones y) s true 0 q) scheme count (table-count m room used y b good ∙ f .0) refl (f .1))
+
+  table-was : (i : ℕ) → tableAt s room m used i ≡ Table x c u e → TableBack s room m used i x c u e
+  unfolding tableAt
+  table-was i h =
+      number-was (Table x c u e) (decode s i) (λ y n. cond (badScheme m y) (TableFault 5 i) (countAt s room y used n)) (λ f. TableFault f i) (λ f. no-table f i x c u e) h
+      (λ y n scheme g.
+      let b = cond-was (Table x c u e) (badScheme m y) (TableFault 5 i) (countAt s room y used n) (no-table 5 i x c u e) g in
+      count-was i y n scheme (b .0) (b .1))
+
+-- ---- the catalogue
+
+-- l is xs but for its entries t to t + k - 1.
+record Kept (l xs : List ℕ) (t k : ℕ) : Type 0 where
+  long : length l ≡ length xs
+  same : (u : ℕ) → (u < t) ⊎ (t + k ≤ u) → getD l u 0 ≡ getD xs u 0
+
+kept-all : {l xs : List ℕ} (t : ℕ) → l ≡ xs → Kept l xs t 0
+kept-all t e = record { long = ap length e; same = λ u h. ap (λ (l : List ℕ). getD l u 0) e }
+
+kept-set : (l xs : List ℕ) (t k x : ℕ) → Kept l (set xs t x) (t + 1) k → Kept l xs t (suc k)
+kept-set l xs t k x K =
+    record {
+      long = K .long ∙ length-set xs t x;
+      same = λ u h.
+          ⊎-elim
+          (λ (b : u < t). K .same u (inl (omega arith)) ∙ getD-set-other xs t u x 0 (λ z. omega arith))
+          (λ (b : t + suc k ≤ u). K .same u (inr (omega arith)) ∙ getD-set-other xs t u x 0 (λ z. omega arith))
+          h;
+    }
+
+-- Of a list that was zeros but for its first n entries, those are all there is.
+kept-front : (l : List ℕ) (n : ℕ) → n ≤ mostTables → Kept l (replicate mostTables 0) 0 n → front n l ≡ l
+unfolding front
+kept-front l n h K =
+    let zeros : replicate (mostTables - n) 0 ≡ drop n l =
+    ext-getD 0 (replicate (mostTables - n) 0) (drop n l) (length-replicate (mostTables - n) 0 ∙ sym (length-drop n l ∙ ap (λ (k : ℕ). k - n) (K .long)))
+    (λ i b.
+    let few : i < mostTables - n = rw length-replicate at b in
+    getD-replicate (mostTables - n) i 0 0 few ∙ sym (getD-drop n l i 0 ∙ K .same (n + i) (inr (omega arith)) ∙ getD-replicate mostTables (n + i) 0 0 (omega arith))) in
+    rw zeros (take-append-drop n l)
+
+-- A good answer has the m and n given, and keeps the entries that no table sets.
+record Keeps (cat : Catalogue) (m n t k : ℕ) (xs cs : List ℕ) : Type 0 where
+  m-is : cat .m ≡ m
+  n-is : cat .n ≡ n
+  schemes : Kept (cat .schemes) xs t k
+  rows : Kept (cat .rows) cs t k
+
+keeps-trimmed : (cat : Catalogue) (m n : ℕ) → n ≤ mostTables → Keeps cat m n 0 n (replicate mostTables 0) (replicate mostTables 0) → trimmed cat ≡ cat
+keeps-trimmed cat m n h K =
+    let few : cat .n ≤ mostTables = omega (arith, K .n-is) in
+    let xs = kept-front (cat .schemes) (cat .n) few (rw (← K .n-is) at (K .schemes)) in
+    let cs = kept-front (cat .rows) (cat .n) few (rw (← K .n-is) at (K .rows)) in
+    rw (xs, cs)
+
+module _ (s : List ℕ) (room m n : ℕ) (cat : Catalogue) where
+  -- Behind the last table nothing lies, and the catalogue is the one given.
+  end-was : (t used : ℕ) (xs cs : List ℕ) (i : ℕ) → tablesFrom zero s room m n t used xs cs i ≡ found cat
+      → (length s ≤ i) × (cat ≡ record { m = m; n = n; schemes = xs; rows = cs })
+  unfolding tablesFrom
+  end-was t used xs cs i q =
+      let c = cond-was (found cat) (ltb i (length s)) (refused 9 i) (found (record { m = m; n = n; schemes = xs; rows = cs })) (no-good 9 i cat) q in
+      (ltb-false i (length s) (c .0), sym (ap (λ (l : Loaded). l .catalogue) (c .1)))
+
+  more-was : {P : Type 0} (k t used : ℕ) (xs cs : List ℕ) (i : ℕ) → tablesFrom (suc k) s room m n t used xs cs i ≡ found cat
+      → ((x c u e : ℕ) → tableAt s room m used i ≡ Table x c u e → tablesFrom k s room m n (t + 1) u (set xs t x) (set cs t c) e ≡ found cat → P) → P
+  unfolding tablesFrom
+  more-was k t used xs cs i q f =
+      entry-was (found cat) (tableAt s room m used i) (λ x c u e. tablesFrom k s room m n (t + 1) u (set xs t x) (set cs t c) e) refused (λ f p. no-good f p cat) q f
+
+  keeps : (k t used : ℕ) (xs cs : List ℕ) (i : ℕ) → tablesFrom k s room m n t used xs cs i ≡ found cat → Keeps cat m n t k xs cs
+  keeps zero t used xs cs i q =
+      let e = end-was t used xs cs i q .1 in
+      record {
+        m-is = ap (λ (d : Catalogue). d .m) e;
+        n-is = ap (λ (d : Catalogue). d .n) e;
+        schemes = kept-all t (ap (λ (d : Catalogue). d .schemes) e);
+        rows = kept-all t (ap (λ (d : Catalogue). d .rows) e);
+      }
+  keeps (suc k) t used xs cs i q =
+      more-was k t used xs cs i q
+      (λ x c u e d g.
+      let K = keeps k (t + 1) u (set xs t x) (set cs t c) e g in
+      record { m-is = K .m-is; n-is = K .n-is; schemes = kept-set (cat .schemes) xs t k x (K .schemes); rows = kept-set (cat .rows) cs t k c (K .rows) })
+
+-- ---- the tables
+
+-- k tables from table t on are read from place i on as the catalogue has them, and nothing lies behind them.
+pub data Tables (s : List ℕ) (room : ℕ) (cat : Catalogue) : ℕ → ℕ → ℕ → Type 0 where
+  none : {t i : ℕ} → length s ≤ i → Tables s room cat 0 t i
+  more : {k t i e : ℕ} → tableAt s room (cat .m) (firstCell cat t) i ≡ Table (schemeOf cat t) (countOf cat t) (firstCell cat (t + 1)) e
+      → Tables s room cat k (t + 1) e → Tables s room cat (suc k) t i
+
+-- An entry that was set and then kept.
+kept-here : (l xs : List ℕ) (t k x : ℕ) → t < length xs → Kept l (set xs t x) (t + 1) k → getD l t 0 ≡ x
+kept-here l xs t k x h K = K .same t (inl (omega arith)) ∙ getD-set-same xs t x 0 h
+
+tables-were : (s : List ℕ) (room n : ℕ) (cat : Catalogue) (k t : ℕ) (xs cs : List ℕ) (i : ℕ) → t + k ≤ length xs → t + k ≤ length cs
+    → tablesFrom k s room (cat .m) n t (firstCell cat t) xs cs i ≡ found cat → Tables s room cat k t i
+tables-were s room n cat zero t xs cs i lx lc q = none (end-was s room (cat .m) n cat t (firstCell cat t) xs cs i q .0)
+tables-were s room n cat (suc k) t xs cs i lx lc q =
+    more-was s room (cat .m) n cat k t (firstCell cat t) xs cs i q
+    (λ x c u e d g.
+    let K = keeps s room (cat .m) n cat k (t + 1) u (set xs t x) (set cs t c) e g in
+    let ex : schemeOf cat t ≡ x = kept-here (cat .schemes) xs t k x (omega arith) (K .schemes) in
+    let ec : countOf cat t ≡ c = kept-here (cat .rows) cs t k c (omega arith) (K .rows) in
+    let eu : firstCell cat (t + 1) ≡ u = cells-next cat t ∙ rw (ex, ec) (sym (table-was s room (cat .m) (firstCell cat t) x c u e i d .cells)) in
+    more (rw (ex, ec, eu) d)
+    (tables-were s room n cat k (t + 1) (set xs t x) (set cs t c) e (rw length-set (omega arith)) (rw length-set (omega arith)) (rw eu g)))
+
+-- How many cells table t has.
+abbrev cellCount : Catalogue → ℕ → ℕ
+cellCount cat t = countOf cat t * ones (schemeOf cat t)
+
+-- What table t, read from place i on, says: its bytes are those of its numbers, its codes lie before those behind it, and no check refuses it.
+record TableRead (s : List ℕ) (room : ℕ) (cat : Catalogue) (t i e : ℕ) : Type 0 where
+  q : ℕ
+  bytes : drop i s ≡ encode (schemeOf cat t) ++ (encode (countOf cat t) ++ (encodes (codes (cellCount cat t) s q) ++ drop e s))
+  long : length (codes (cellCount cat t) s q) ≡ cellCount cat t
+  all : (k : ℕ) → tablesCodes (suc k) s i ≡ codes (cellCount cat t) s q ++ tablesCodes k s e
+  clear : faultAt cat room t ≡ 0
+  rows : rowsFrom (countOf cat t) (ones (schemeOf cat t)) s true 0 q ≡ To e
+
+module _ (s : List ℕ) (by : (k : ℕ) → getD s k 0 < 256) (room : ℕ) (cat : Catalogue) where
+  table-read : (t i u e : ℕ) → tableAt s room (cat .m) (firstCell cat t) i ≡ Table (schemeOf cat t) (countOf cat t) u e → TableRead s room cat t i e
+  table-read t i u e d =
+      let x = schemeOf cat t in
+      let c = countOf cat t in
+      let b = table-was s room (cat .m) (firstCell cat t) x c u e i d in
+      let end = rows-run c (ones x) s true 0 (b .q) e (b .rows) in
+      let run = run-bytes s by (c * ones x) (b .q) e end in
+      record {
+        q = b .q;
+        bytes = rw (encode-decode s i x (b .n) by (b .scheme) .bytes, encode-decode s (b .n) c (b .q) by (b .count) .bytes, run .bytes);
+        long = run .long;
+        all = λ k. table-codes s k i x (b .n) c (b .q) e (b .scheme) (b .count) end;
+        clear = b .clear;
+        rows = b .rows;
+      }
+
+  -- The tables have as many codes as cells, and fit in the room.
+  pub tables-fit : (k t i n : ℕ) → t + k ≡ n → firstCell cat t ≤ room → Tables s room cat k t i
+      → (firstCell cat t + length (tablesCodes k s i) ≡ firstCell cat n) × (firstCell cat n ≤ room)
+  unfolding tablesCodes
+  tables-fit zero t i n e l (none h) = let q : t ≡ n = omega arith in (rw q (omega arith), rw (← q) l)
+  tables-fit (suc k) t i n e l (more {e = e′} d T) =
+      let b = table-read t i (firstCell cat (t + 1)) e′ d in
+      let fits = fault-clear (cat .m) room (firstCell cat t) (schemeOf cat t) (countOf cat t) (b .clear) .room in
+      let f = tables-fit k (t + 1) e′ n (omega arith) (omega (arith, cells-next cat t)) T in
+      (rw (b .all k) (simp length-append (omega (arith, cells-next cat t, f .0, b .long))), f .1)
+
+  -- Where the codes from table t on lie in the cells: the table's cells are its codes, no row is refused, and behind them lie the later codes.
+  table-back : (cells r : List ℕ) (k t i e : ℕ) (b : TableRead s room cat t i e) → drop (firstCell cat t) cells ≡ tablesCodes (suc k) s i ++ r
+      → (cellsOf cat cells t ≡ codes (cellCount cat t) s (b .q)) × (rowsAt cat cells t ≡ 0) × (drop (firstCell cat (t + 1)) cells ≡ tablesCodes k s e ++ r)
+  table-back cells r k t i e b d =
+      let all : drop (firstCell cat t) cells ≡ codes (cellCount cat t) s (b .q) ++ (tablesCodes k s e ++ r) = d ∙ rw (b .all k) (append-assoc (codes (cellCount cat t) s (b .q)) (tablesCodes k s e) r) in
+      let here = part-stands cells (firstCell cat t) (cellCount cat t) (codes (cellCount cat t) s (b .q)) (tablesCodes k s e ++ r) (b .long) all in
+      let rows = rows-back s by (countOf cat t) (ones (schemeOf cat t)) cells true 0 (firstCell cat t) 0 (b .q) e (tablesCodes k s e ++ r) (b .rows) (λ ys. refl) all in
+      (here .0, rows, rw (cells-next cat t) (here .1))
+
+  -- There the writer makes of the tables the bytes that were read, and refuses none.
+  pub tables-back : (cells r : List ℕ) (k t i : ℕ) → length cells ≡ room → Tables s room cat k t i → drop (firstCell cat t) cells ≡ tablesCodes k s i ++ r
+      → (drop i s ≡ tablesImage k cat cells t) × (tablesRefusal k cat cells t ≡ 0)
+  unfolding tablesImage
+  tables-back cells r zero t i l (none h) d = (drop-of-length-le s h, refusal-none cat cells 0 t (omega arith))
+  tables-back cells r (suc k) t i l (more {e = e} h T) d =
+      let b = table-read t i (firstCell cat (t + 1)) e h in
+      let c = table-back cells r k t i e b d in
+      let later = tables-back cells r k (t + 1) e l T (c .2) in
+      (rw (c .0, ← later .0) (b .bytes), refusal-more cat cells (suc k) k t refl (rw l (b .clear)) (c .1) ∙ later .1)
+
+-- ---- the head
+
+-- What a number of the head says: it lies in its range, and its one byte is that of the number.
+record FieldBack (s : List ℕ) (i low high x n : ℕ) : Type 0 where
+  above : low ≤ x
+  under : x ≤ high
+  next : n ≡ i + 1
+  bytes : drop i s ≡ encode x ++ drop n s
+
+inside-was : (low high x : ℕ) → outside low high x ≡ false → (low ≤ x) × (x ≤ high)
+inside-was low high x e =
+    let c = or-clear (ltb x low) (ltb high x) e in
+    (ltb-false x low (c .0), ltb-false high x (c .1))
+
+field-back : (s : List ℕ) → ((k : ℕ) → getD s k 0 < 256) → (i low high f x n : ℕ) → high < 128 → fieldAt s i low high f ≡ Value x n → FieldBack s i low high x n
+unfolding fieldAt
+field-back s by i low high f x n h e =
+    number-was (Value x n) (decode s i) (λ y k. cond (outside low high y) (FieldFault f i) (Value y k)) (λ k. FieldFault k i) (λ k. no-field k i x n) e
+    (λ y k d g.
+    let c = cond-was (Value x n) (outside low high y) (FieldFault f i) (Value y k) (no-field f i x n) g in
+    let v : Value y k ≡ Value x n = c .1 in
+    let ex : y ≡ x = cc in
+    let en : k ≡ n = cc in
+    let r = inside-was low high y (c .0) in
+    let o = encode-decode s i y k by d in
+    record { above = omega arith; under = omega arith; next = sym en ∙ o .next ∙ rw (one-byte y (omega arith)); bytes = rw (← ex, ← en) (o .bytes) })
+
+-- What a good scan says: m and n are in range, the head's bytes are theirs, and behind it the tables are read. Each list has eight entries, 0 from n on.
+pub record ScanBack (s : List ℕ) (room : ℕ) (cat : Catalogue) : Type 0 where
+  pub range : InRange (cat .m) (cat .n)
+  pub bytes : s ≡ encode version ++ (encode (cat .m) ++ (encode (cat .n) ++ drop firstTable s))
+  pub tables : Tables s room cat (cat .n) 0 firstTable
+  pub schemes : length (cat .schemes) ≡ mostTables
+  pub rows : length (cat .rows) ≡ mostTables
+  pub trim : trimmed cat ≡ cat
+
+head-back : (s : List ℕ) (room v i m j n k : ℕ) (cat : Catalogue) → FieldBack s 0 version version v i → FieldBack s i 1 mostAttributes m j → FieldBack s j 1 mostTables n k
+    → tablesFrom n s room m n 0 0 (replicate mostTables 0) (replicate mostTables 0) k ≡ found cat → ScanBack s room cat
+unfolding firstCell
+head-back s room v i m j n k cat a b c e =
+    let K = keeps s room m n cat n 0 0 (replicate mostTables 0) (replicate mostTables 0) k e in
+    let ev : v ≡ version = omega (arith, a .above, a .under) in
+    let ek : k ≡ firstTable = omega (arith, a .next, b .next, c .next) in
+    let all : s ≡ encode v ++ (encode m ++ (encode n ++ drop k s)) = a .bytes ∙ ap (λ (l : List ℕ). encode v ++ l) (b .bytes ∙ ap (λ (l : List ℕ). encode m ++ l) (c .bytes)) in
+    let same-m = subst (λ (x : ℕ). tablesFrom n s room x n 0 0 (replicate mostTables 0) (replicate mostTables 0) k ≡ found cat) (sym (K .m-is)) e in
+    let T = tables-were s room n cat n 0 (replicate mostTables 0) (replicate mostTables 0) k (omega (arith, c .under)) (omega (arith, c .under)) same-m in
+    record {
+      range = rw (K .m-is, K .n-is) (record { m-low = b .above; m-high = b .under; n-low = c .above; n-high = c .under });
+      bytes = rw (ev, ← K .m-is, ← K .n-is, ek) at all;
+      tables = rw (← K .n-is, ek) at T;
+      schemes = K .schemes .long;
+      rows = K .rows .long;
+      trim = keeps-trimmed cat m n (c .under) K;
+    }
+
+pub scan-back : (s : List ℕ) → ((k : ℕ) → getD s k 0 < 256) → (room : ℕ) (cat : Catalogue) → scanOf s room ≡ found cat → ScanBack s room cat
+unfolding scanOf
+scan-back s by room cat e =
+    let last : ℕ → ℕ → ℕ → Loaded = λ m n k. tablesFrom n s room m n 0 0 (replicate mostTables 0) (replicate mostTables 0) k in
+    field-was (fieldAt s 0 version version 3) (λ v i. onField (fieldAt s i 1 mostAttributes 4) (λ m j. onField (fieldAt s j 1 mostTables 4) (last m))) cat e
+    (λ v i a ea. field-was (fieldAt s i 1 mostAttributes 4) (λ m j. onField (fieldAt s j 1 mostTables 4) (last m)) cat ea
+    (λ m j b eb. field-was (fieldAt s j 1 mostTables 4) (last m) cat eb
+    (λ n k c ec.
+    head-back s room v i m j n k cat (field-back s by 0 version version 3 v i (omega arith) a) (field-back s by i 1 mostAttributes 4 m j (omega arith) b)
+    (field-back s by j 1 mostTables 4 n k (omega arith) c) ec)))

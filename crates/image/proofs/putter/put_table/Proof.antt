@@ -1,0 +1,31 @@
+-- `image::putter::put_table` meets its contract: three parts, each placed behind the one before, are one. Assumes nothing.
+use native.Mathlib.Omega.{arith}
+use borrow.Author.Needs.{needs}
+use Rattle.image.proofs.WriteLaws.{placed-length, placed-append}
+use Rattle.image.proofs.putter.put_table.Statement.{statement}
+use Rattle.image.proofs.putter.put_table.Tie as tie
+
+put-number-requires : tie.Need-put-number-requires
+put-number-requires c κs = search needs
+
+put-number-requires-2 : tie.Need-put-number-requires-2
+put-number-requires-2 c κs = search needs
+
+put-run-requires : tie.Need-put-run-requires
+put-run-requires c κs = search needs
+
+same-length : tie.Need-same-length
+same-length c = search needs
+
+returns : tie.Need-returns
+returns c =
+    let s = c .before .before .before .before .before .before .before .before .before .before .put-number .ensures in
+    let r = c .before .before .before .before .before .before .put-number2 .ensures in
+    let p = c .before .before .before .before .before .before .before .before .before .before .before .before .before .before .pre in
+    let k = placed-length (omega arith) s in
+    placed-append (omega arith) s (placed-append (omega (arith, s .next)) r (c .before .before .put-run .ensures))
+
+pub put-table-spec : {M : Type 1} → statement M
+put-table-spec =
+    tie.close
+    (tie.spec put-number-requires put-number-requires-2 put-run-requires same-length returns)

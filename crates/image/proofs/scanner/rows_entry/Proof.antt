@@ -1,0 +1,40 @@
+-- `image::scanner::rows_entry` meets its contract: the end of the rows makes the entry. Assumes nothing.
+use native.Mathlib.Omega.{arith}
+use Prim.Native.Nat.{ℕ, _+_, _-_, _*_, _^_, _≤_, _<_}
+use mathlib.Core.Path.{_≡_, refl, sym, ap, _∙_}
+use lib.ListN.{length, getD}
+use borrow.Author.Needs.{needs}
+use lib.Count.{ones}
+use Rattle.image.specs.Reading.{rowsFrom}
+use Rattle.image.specs.Load.{entryOf}
+use denote.Ref.{now}
+use mathlib.Core.Bool.{true}
+use Rattle.image.proofs.scanner.rows_entry.Statement.{statement}
+use Rattle.image.proofs.scanner.rows_entry.Tie as tie
+
+width-requires : tie.Need-width-requires
+width-requires c κs = search needs
+
+rows-end-requires : tie.Need-rows-end-requires
+rows-end-requires c κs = search needs
+
+enum-known-n : tie.Need-enum-known-n
+enum-known-n c = search needs
+
+enum-known-k : tie.Need-enum-known-k
+enum-known-k c = search needs
+
+returns : tie.Need-returns
+returns c =
+    let e = c .before .before .before in
+    rw (← e .before .width .ensures, ← e .rows-end .ensures, c .before .n .given .1)
+
+returns-2 : tie.Need-returns-2
+returns-2 c =
+    let e = c .before .before .before in
+    rw (← e .before .width .ensures, ← e .rows-end .ensures, c .before .k .given .1)
+
+pub rows-entry-spec : {M : Type 1} → statement M
+rows-entry-spec =
+    tie.close
+    (tie.spec width-requires rows-end-requires enum-known-n enum-known-k returns returns-2)

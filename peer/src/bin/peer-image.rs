@@ -1,0 +1,149 @@
+//! Compares the library's check, load and write with the peer's, over many images and over the named edges.
+//! Use: peer-image [images] [seed]
+#![forbid(unsafe_code)]
+use peer::edges;
+use peer::lent::Lent;
+use peer::make::{self, Tables, WriterCase};
+use peer::random::Random;
+use peer::tally::Tally;
+use peer::words::{self, CATALOGUE};
+use peer::{hold, library};
+use std::process::exit;
+
+/// How often each refusal has to be met on each call that can give it.
+/// A run that met one too rarely fails.
+const LEAST: u64 = 100;
+
+/// An image in hexadecimal digits.
+/// For the report of a difference.
+fn hex(image: &[u8]) -> String {
+    image.iter().map(|byte| format!("{byte:02X} ")).collect()
+}
+
+/// Compares check on one image.
+/// It gives the peer's answer.
+fn compare_check(image: &[u8]) -> Result<u64, String> {
+    let (ours, theirs) = (words::check(image), library::check(image));
+    hold!(ours == theirs, "check gives {theirs}, the peer {ours}: {}", hex(image));
+    Ok(ours)
+}
+
+/// Compares load on one image with so many cells and catalogue words lent.
+/// It gives the peer's answer, catalogue and cells.
+fn compare_load(random: &mut Random, image: &[u8], cells: usize, catalogue: usize) -> Result<(u64, Lent<u64>, Lent<u64>), String> {
+    let mut our_cells = Lent::pattern(cells, random);
+    let mut our_catalogue = Lent::pattern(catalogue, random);
+    let mut their_cells = our_cells.clone();
+    let mut their_catalogue = our_catalogue.clone();
+    let ours = words::load(image, our_cells.slice_mut(), our_catalogue.slice_mut());
+    let theirs = library::load(image, their_cells.slice_mut(), their_catalogue.slice_mut());
+    let lent = || format!("{cells} cells, {catalogue} catalogue words: {}", hex(image));
+    hold!(ours == theirs, "load gives {theirs}, the peer {ours}, {}", lent());
+    hold!(our_catalogue == their_catalogue, "load leaves another catalogue, {}", lent());
+    hold!(our_cells == their_cells, "load leaves other cells, {}", lent());
+    Ok((ours, our_catalogue, our_cells))
+}
+
+/// Compares write on one case, and that what is lent for reading stays.
+/// It gives the peer's answer and output.
+fn compare_write(random: &mut Random, case: &WriterCase) -> Result<(u64, Lent<u8>), String> {
+    let mut our_out = Lent::pattern(case.out, random);
+    let mut their_out = our_out.clone();
+    let catalogue = Lent::holding(&case.catalogue, random);
+    let cells = Lent::holding(&case.cells, random);
+    let ours = words::write(&case.catalogue, &case.cells, our_out.slice_mut());
+    let theirs = library::write(catalogue.slice(), cells.slice(), their_out.slice_mut());
+    let lent = || format!("catalogue {:?}, cells {:?}, {} bytes lent", case.catalogue, case.cells, case.out);
+    hold!(ours == theirs, "write gives {theirs}, the peer {ours}: {}", lent());
+    hold!(our_out == their_out, "write leaves other bytes: {}", lent());
+    hold!(catalogue.slice() == case.catalogue && cells.slice() == case.cells, "write changes what it reads: {}", lent());
+    Ok((ours, our_out))
+}
+
+/// Compares all calls on one made image, with both round trips.
+/// What the library loads it writes back byte for byte, and what it writes it loads again.
+fn compare_image(random: &mut Random, tally: &mut Tally) -> Result<(), String> {
+    let tables: Tables = make::any_tables(random);
+    let needed = tables.cells.len();
+    let image = if random.percent(45) { make::good(&tables) } else { make::damaged(random, tables.clone()) };
+    let checked = compare_check(&image)?;
+    tally.meet("check", checked % 32);
+    let lent = make::lent_cells(random, needed);
+    let catalogue_words = make::lent_words(random, CATALOGUE);
+    let (loaded, catalogue, cells) = compare_load(random, &image, lent, catalogue_words)?;
+    tally.meet("load", loaded % 32);
+    if loaded == 0 {
+        let back = WriterCase { catalogue: catalogue.slice().to_vec(), cells: cells.slice().to_vec(), out: image.len() };
+        let (length, out) = compare_write(random, &back)?;
+        hold!(length == image.len() as u64 * 32 && out.slice() == image, "writing what was loaded gives another image: {}", hex(&image));
+    }
+    let case = make::writer_case(random, tables);
+    let (written, out) = compare_write(random, &case)?;
+    tally.meet("write", written % 32);
+    if written % 32 == 0 {
+        let image = &out.slice()[..written as usize / 32];
+        let used = words::catalogue_of(&case.catalogue).cells();
+        let (again, catalogue, cells) = compare_load(random, image, used, CATALOGUE)?;
+        let n = case.catalogue[1] as usize;
+        let same = |from: usize| catalogue.slice()[from..from + n] == case.catalogue[from..from + n];
+        let whole = again == 0 && catalogue.slice()[..2] == case.catalogue[..2] && same(2) && same(10);
+        hold!(whole && cells.slice() == &case.cells[..used], "loading what was written gives other tables: {}", hex(image));
+    }
+    Ok(())
+}
+
+/// Checks one image edge on both sides: by check, and by load with 8,192 cells.
+/// It gives the loaded cells.
+fn image_edge(random: &mut Random, edge: &edges::ImageEdge) -> Result<Lent<u64>, String> {
+    let expected = edge.answer.1 * 32 + edge.answer.0;
+    let checked = compare_check(&edge.image)?;
+    let (loaded, _, cells) = compare_load(random, &edge.image, 8192, CATALOGUE)?;
+    hold!(checked == expected && loaded == expected, "edge {}: {checked} and {loaded} instead of {expected}", edge.name);
+    Ok(cells)
+}
+
+/// Checks all edges on both sides.
+/// Each counts as one comparison.
+fn compare_edges(random: &mut Random, tally: &mut Tally) {
+    for (edge, code) in edges::numbers() {
+        let result = image_edge(random, &edge).and_then(|cells| {
+            hold!(edge.answer.0 != 0 || cells.slice()[0] == code, "edge {}: another code", edge.name);
+            Ok(())
+        });
+        tally.compare(result);
+    }
+    for edge in edges::images() {
+        let result = image_edge(random, &edge);
+        tally.compare(result.map(|_| ()));
+    }
+    for edge in edges::writer() {
+        let case = WriterCase { catalogue: edge.catalogue.to_vec(), cells: edge.cells, out: edge.out };
+        let result = compare_write(random, &case).and_then(|(answer, out)| {
+            hold!(answer == edge.answer.1 * 32 + edge.answer.0, "edge {}: {answer}", edge.name);
+            hold!(out.slice().starts_with(&edge.bytes), "edge {}: other bytes", edge.name);
+            Ok(())
+        });
+        tally.compare(result);
+    }
+}
+
+/// Runs the edges, then the made images, and prints the table and the last line.
+/// The exit code is 1 if anything failed.
+fn main() {
+    let mut arguments = std::env::args().skip(1).map(|word| word.parse::<u64>().expect("use: peer-image [images] [seed]"));
+    let images = arguments.next().unwrap_or(120_000);
+    let mut random = Random::new(arguments.next().unwrap_or(1));
+    let mut tally = Tally::default();
+    if library::MOCK {
+        println!("MOCK: the peer is compared with itself");
+    }
+    compare_edges(&mut random, &mut tally);
+    for _ in 0..images {
+        let result = compare_image(&mut random, &mut tally);
+        tally.compare(result);
+    }
+    tally.table("check", &["0", "1", "2", "3", "4", "5", "6", "7", "8", "9"], LEAST);
+    tally.table("load", &["0", "1", "2", "3", "4", "5", "6", "7", "8", "9", "31"], LEAST);
+    tally.table("write", &["0", "4", "5", "6", "7", "8", "10", "11", "31"], LEAST);
+    exit(if tally.end() { 0 } else { 1 });
+}

@@ -1,0 +1,187 @@
+//! The edges that the rules name, each with the answer written down by hand.
+use crate::words::CATALOGUE;
+
+/// An image edge: the image and the answer to it, with 8,192 cells lent.
+/// The answer is the refusal and the place; (0, 0) is good.
+pub struct ImageEdge {
+    pub name: &'static str,
+    pub image: Vec<u8>,
+    pub answer: (u64, u64),
+}
+
+/// A writer's edge: the tables, the lent output's length and the answer.
+/// The answer is the refusal and the length; the bytes are those of a success.
+pub struct WriterEdge {
+    pub name: &'static str,
+    pub catalogue: [u64; CATALOGUE],
+    pub cells: Vec<u64>,
+    pub out: usize,
+    pub answer: (u64, u64),
+    pub bytes: Vec<u8>,
+}
+
+/// Bytes from their written form: two hexadecimal digits each, blanks between them.
+/// A form that is not so is a fault in this file.
+pub fn hex(text: &str) -> Vec<u8> {
+    text.split_whitespace().map(|byte| u8::from_str_radix(byte, 16).expect("not a byte")).collect()
+}
+
+/// The image of one table with all 63 attributes and so many rows: version, m, n, scheme, row count, cells.
+/// The first cell of a row is its number, the others are 0.
+pub fn full_width(rows: u8) -> Vec<u8> {
+    let mut image = hex("01 3F 01 FF FF FF FF FF FF FF FF 7F");
+    image.extend(if rows < 128 { vec![rows] } else { vec![rows, 1] });
+    for row in 1..=rows {
+        image.extend(if row < 128 { vec![row] } else { vec![row, 1] });
+        image.extend(vec![0; 62]);
+    }
+    image
+}
+
+/// The number edges as images: the number is the only cell of a good image, at place 5.
+/// The code is that of the cell when the image is good.
+pub fn numbers() -> Vec<(ImageEdge, u64)> {
+    let edge = |name, form: &str, answer, code| {
+        let image = hex(&format!("01 01 01 01 01 {form}"));
+        (ImageEdge { name, image, answer }, code)
+    };
+    vec![
+        edge("P 0 is 00", "00", (0, 0), 0),
+        edge("1 is 01", "01", (0, 0), 1),
+        edge("P 127 is 7F", "7F", (0, 0), 127),
+        edge("P 128 is 80 01", "80 01", (0, 0), 128),
+        edge("16,383 is FF 7F", "FF 7F", (0, 0), 16_383),
+        edge("16,384 is 80 80 01", "80 80 01", (0, 0), 16_384),
+        edge("4,294,967,307 is 8B 80 80 80 10", "8B 80 80 80 10", (0, 0), 4_294_967_307),
+        edge("P 2^63 - 1 is FF eight times, then 7F", "FF FF FF FF FF FF FF FF 7F", (0, 0), (1 << 63) - 1),
+        edge("2^56 is 80 eight times, then 01", "80 80 80 80 80 80 80 80 01", (0, 0), 1 << 56),
+        edge("P 80 00 gives 2", "80 00", (2, 5), 0),
+        edge("FF 00 gives 2", "FF 00", (2, 5), 0),
+        edge("nine bytes with a last group of zero give 2", "80 80 80 80 80 80 80 80 00", (2, 5), 0),
+        edge("nine bytes 80 give 2", "80 80 80 80 80 80 80 80 80", (2, 5), 0),
+        edge("nine bytes FF give 2", "FF FF FF FF FF FF FF FF FF", (2, 5), 0),
+        edge("ten bytes give 2", "80 80 80 80 80 80 80 80 80 01", (2, 5), 0),
+        edge("eight bytes 80 give 1", "80 80 80 80 80 80 80 80", (1, 5), 0),
+        edge("one byte 80 gives 1", "80", (1, 5), 0),
+        edge("no byte gives 1", "", (1, 5), 0),
+    ]
+}
+
+/// The image edges, those of the rules first and then the other sides of them.
+/// Places count bytes from 0.
+pub fn images() -> Vec<ImageEdge> {
+    let edge = |name, form: &str, refusal, place| ImageEdge { name, image: hex(form), answer: (refusal, place) };
+    let mut edges = vec![
+        edge("empty", "", 1, 0),
+        edge("version 2", "02", 3, 0),
+        edge("P no rows", "01 01 01 01 00", 0, 0),
+        edge("P one null row", "01 01 01 01 01 00", 0, 0),
+        edge("64 attributes", "01 40", 4, 1),
+        edge("nine tables", "01 01 09", 4, 2),
+        edge("P attribute 1 of 1", "01 01 01 02", 5, 3),
+        edge("256 rows", "01 01 01 01 80 02", 6, 4),
+        edge("255 rows and no cells", "01 01 01 01 FF 01", 1, 6),
+        edge("P the same row twice", "01 01 01 01 02 05 05", 7, 6),
+        edge("P one byte behind", "01 01 01 01 00 00", 9, 5),
+        edge("the sample", "01 03 03 03 02 02 0B 03 15 06 02 0B 08 8B 80 80 80 10 0A 05 02 02 08 03 00", 0, 0),
+        edge("version 0", "00", 3, 0),
+        edge("version 129", "81 01", 3, 0),
+        edge("version in two bytes", "81 00", 2, 0),
+        edge("the version alone", "01", 1, 1),
+        edge("no attributes", "01 00", 4, 1),
+        edge("63 attributes", "01 3F", 1, 2),
+        edge("no tables", "01 01 00", 4, 2),
+        edge("eight tables", "01 01 08", 1, 3),
+        edge("scheme 0", "01 01 01 00", 5, 3),
+        edge("attribute 62 of 63", "01 3F 01 80 80 80 80 80 80 80 80 40 00", 0, 0),
+        edge("attribute 62 of 62", "01 3E 01 80 80 80 80 80 80 80 80 40 00", 5, 3),
+        edge("no row count", "01 01 01 01", 1, 4),
+        edge("the most rows a number can say", "01 01 01 01 FF FF FF FF FF FF FF FF 7F", 6, 4),
+        edge("the row before again, one lower", "01 01 01 01 02 05 04", 7, 6),
+        edge("the row before, one higher", "01 01 01 01 02 05 06", 0, 0),
+        edge("a null row after a row", "01 01 01 01 02 01 00", 7, 6),
+        edge("rows rise at the second cell", "01 02 01 03 02 05 05 05 06", 0, 0),
+        edge("rows fall at the second cell", "01 02 01 03 02 05 06 05 05", 7, 7),
+        edge("the second cell falls and the first rises", "01 02 01 03 02 05 06 06 05", 0, 0),
+        edge("the row's place is that of its first cell", "01 02 01 03 02 80 01 05 80 01 04", 7, 8),
+        edge("a cell's fault comes before its row's", "01 02 01 03 02 05 06 05 80 00", 2, 8),
+        edge("a table without rows, then one", "01 01 02 01 00 01 01 07", 0, 0),
+        edge("rows of two tables are not compared", "01 01 02 01 01 07 01 01 07", 0, 0),
+        edge("the second table's scheme", "01 01 02 01 01 07 02", 5, 6),
+        edge("the second table is missing", "01 01 02 01 01 07", 1, 6),
+    ];
+    edges.push(ImageEdge { name: "63 attributes, 130 rows", image: full_width(130), answer: (0, 0) });
+    edges.push(ImageEdge { name: "63 attributes, 131 rows", image: full_width(131), answer: (8, 12) });
+    let mut more = hex("01 3F 02 FF FF FF FF FF FF FF FF 7F");
+    more.extend(&full_width(130)[12..]);
+    let place = more.len() as u64 + 1;
+    for (name, rows, answer) in [("8,192 cells", "01 02 01 02", (0, 0)), ("8,193 cells", "01 03 01 02 03", (8, place))] {
+        let mut image = more.clone();
+        image.extend(hex(rows));
+        edges.push(ImageEdge { name, image, answer });
+    }
+    edges
+}
+
+/// A catalogue in words with one or two tables.
+/// The entries from n on hold numbers that would be refused.
+fn catalogue(m: u64, n: u64, entries: &[(u64, u64)]) -> [u64; CATALOGUE] {
+    let mut words = [0; CATALOGUE];
+    words[0] = m;
+    words[1] = n;
+    for table in 0..8 {
+        let (scheme, rows) = entries.get(table).copied().unwrap_or((0, 65_536));
+        words[2 + table] = scheme;
+        words[10 + table] = rows;
+    }
+    words
+}
+
+/// The writer's edges.
+/// On a refusal the length is 0 and no byte is written.
+pub fn writer() -> Vec<WriterEdge> {
+    let top = 1 << 63;
+    let edge = |name, catalogue, cells: &[u64], out, answer, bytes: &str| WriterEdge {
+        name,
+        catalogue,
+        cells: cells.to_vec(),
+        out,
+        answer,
+        bytes: hex(bytes),
+    };
+    let one = |rows| catalogue(1, 1, &[(1, rows)]);
+    vec![
+        edge("no rows", one(0), &[], 5, (0, 5), "01 01 01 01 00"),
+        edge("no rows, one byte short", one(0), &[], 4, (11, 0), ""),
+        edge("no rows, no output", one(0), &[], 0, (11, 0), ""),
+        edge("one null row", one(1), &[0], 6, (0, 6), "01 01 01 01 01 00"),
+        edge("one null row, longer output", one(1), &[0, top], 9, (0, 6), "01 01 01 01 01 00"),
+        edge("code 127", one(1), &[127], 6, (0, 6), "01 01 01 01 01 7F"),
+        edge("code 128, one byte short", one(1), &[128], 6, (11, 0), ""),
+        edge("code 128", one(1), &[128], 7, (0, 7), "01 01 01 01 01 80 01"),
+        edge("code 2^63 - 1", one(1), &[top - 1], 14, (0, 14), "01 01 01 01 01 FF FF FF FF FF FF FF FF 7F"),
+        edge("code 2^63", one(1), &[top], 14, (10, 0), ""),
+        edge("m 0", catalogue(0, 1, &[(1, 0)]), &[], 9, (4, 0), ""),
+        edge("m 64", catalogue(64, 1, &[(1, 0)]), &[], 9, (4, 0), ""),
+        edge("m 63", catalogue(63, 1, &[(1, 0)]), &[], 9, (0, 5), "01 3F 01 01 00"),
+        edge("n 0", catalogue(1, 0, &[(1, 0)]), &[], 9, (4, 0), ""),
+        edge("n 9", catalogue(1, 9, &[(1, 0); 8]), &[], 99, (4, 0), ""),
+        edge("n 8", catalogue(1, 8, &[(1, 0); 8]), &[], 99, (0, 19), "01 01 08 01 00 01 00 01 00 01 00 01 00 01 00 01 00 01 00"),
+        edge("scheme 0", catalogue(1, 1, &[(0, 0)]), &[], 9, (5, 0), ""),
+        edge("scheme 2^m", catalogue(1, 1, &[(2, 0)]), &[], 9, (5, 0), ""),
+        edge("scheme 2^63", catalogue(63, 1, &[(top, 0)]), &[], 9, (5, 0), ""),
+        edge("256 rows", one(256), &[], 9, (6, 0), ""),
+        edge("65,536 rows", one(65_536), &[], 9, (6, 0), ""),
+        edge("a cell too few", one(1), &[], 9, (8, 0), ""),
+        edge("the same row twice", one(2), &[5, 5], 9, (7, 0), ""),
+        edge("a lower row", one(2), &[5, 4], 9, (7, 0), ""),
+        edge("a higher row", one(2), &[5, 6], 7, (0, 7), "01 01 01 01 02 05 06"),
+        edge("10 before 7", catalogue(2, 1, &[(3, 2)]), &[5, 5, 4, top], 99, (10, 0), ""),
+        edge("7 in an earlier row than 10", one(3), &[5, 4, top], 99, (7, 0), ""),
+        edge("the first table's row before the second's scheme", catalogue(1, 2, &[(1, 2), (0, 0)]), &[5, 5], 99, (7, 0), ""),
+        edge("the second table's scheme before its rows", catalogue(1, 2, &[(1, 0), (2, 256)]), &[], 99, (5, 0), ""),
+        edge("all else before 11", one(2), &[5, 5], 0, (7, 0), ""),
+        edge("the sample", catalogue(3, 3, &[(3, 2), (6, 2), (5, 2)]), &[2, 11, 3, 21, 11, 8, 4_294_967_307, 10, 2, 8, 3, 0], 25, (0, 25),
+            "01 03 03 03 02 02 0B 03 15 06 02 0B 08 8B 80 80 80 10 0A 05 02 02 08 03 00"),
+    ]
+}

@@ -1,0 +1,213 @@
+//! The catalogue, and the image that holds up to eight tables.
+use crate::numbers;
+use crate::refusal::{Fault, Refusal};
+
+/// The most attributes, tables, rows in a table, and cells of all tables together.
+/// The lent cell slice may set a lower bound on the cells.
+pub const ATTRIBUTES: u64 = 63;
+pub const TABLES: u64 = 8;
+pub const ROWS: u64 = 255;
+pub const CELLS: usize = 8192;
+
+/// What the tables look like, without their cells.
+/// Entries from n on are ignored when read and are 0 after a load.
+#[derive(Clone, Copy, Debug, Default, PartialEq, Eq)]
+pub struct Catalogue {
+    pub m: u64,
+    pub n: u64,
+    pub schemes: [u64; 8],
+    pub rows: [u16; 8],
+}
+
+impl Catalogue {
+    /// How many cells a row of the table has: one for each attribute of its scheme.
+    /// The table's number is below 8.
+    pub fn width(&self, table: usize) -> usize {
+        self.schemes[table].count_ones() as usize
+    }
+
+    /// How many cells the table has.
+    /// Tables lie one after the other, so a sum of these is a place.
+    pub fn size(&self, table: usize) -> usize {
+        self.width(table) * usize::from(self.rows[table])
+    }
+
+    /// The cells of all tables together.
+    /// n is in range.
+    pub fn cells(&self) -> usize {
+        (0..self.n as usize).map(|table| self.size(table)).sum()
+    }
+}
+
+/// Is m, the number of attributes, in range?
+/// From 1 to 63.
+fn attributes_fit(m: u64) -> bool {
+    (1..=ATTRIBUTES).contains(&m)
+}
+
+/// Is n, the number of tables, in range?
+/// From 1 to 8.
+fn tables_fit(n: u64) -> bool {
+    (1..=TABLES).contains(&n)
+}
+
+/// Is the scheme right for m attributes?
+/// It has an attribute, and none from m on; m is in range.
+fn scheme_fits(scheme: u64, m: u64) -> bool {
+    scheme != 0 && scheme < 1 << m
+}
+
+/// Checks m, then n.
+/// Both give 4.
+pub fn check_range(catalogue: &Catalogue) -> Result<(), Refusal> {
+    if !attributes_fit(catalogue.m) || !tables_fit(catalogue.n) {
+        return Err(Refusal::Range);
+    }
+    Ok(())
+}
+
+/// Checks one table's entries: 5, then 6, then 8.
+/// `before` counts the cells of the tables before it; `lent` is the cell slice's length.
+pub fn check_table(catalogue: &Catalogue, table: usize, before: usize, lent: usize) -> Result<(), Refusal> {
+    if !scheme_fits(catalogue.schemes[table], catalogue.m) {
+        return Err(Refusal::Scheme);
+    }
+    if u64::from(catalogue.rows[table]) > ROWS {
+        return Err(Refusal::Rows);
+    }
+    if before + catalogue.size(table) > lent.min(CELLS) {
+        return Err(Refusal::Cells);
+    }
+    Ok(())
+}
+
+/// Checks a whole catalogue as open does: 4, then table by table 5, 6, 8.
+/// No cell is looked at.
+pub fn check_catalogue(catalogue: &Catalogue, lent: usize) -> Result<(), Refusal> {
+    check_range(catalogue)?;
+    let mut before = 0;
+    for table in 0..catalogue.n as usize {
+        check_table(catalogue, table, before, lent)?;
+        before += catalogue.size(table);
+    }
+    Ok(())
+}
+
+/// A reader that walks over an image number by number.
+/// `place` is the next byte to be read.
+struct Reader<'a> {
+    image: &'a [u8],
+    place: usize,
+}
+
+impl Reader<'_> {
+    /// Reads the next number and moves behind it.
+    /// Its own faults (1, 2) carry the place of its first byte.
+    fn number(&mut self) -> Result<u64, Fault> {
+        let (value, length) = numbers::decode(&self.image[self.place..])
+            .map_err(|refusal| Fault { refusal, place: self.place })?;
+        self.place += length;
+        Ok(value)
+    }
+
+    /// Reads the next number and refuses it if it has no good meaning.
+    /// The refusal carries the place of the number's first byte.
+    fn meant(&mut self, refusal: Refusal, good: impl Fn(u64) -> bool) -> Result<u64, Fault> {
+        let place = self.place;
+        let value = self.number()?;
+        if good(value) {
+            Ok(value)
+        } else {
+            Err(Fault { refusal, place })
+        }
+    }
+}
+
+/// Reads an image with room for so many cells: the catalogue and the cells, or the first fault in reading order.
+/// Nothing lent is touched here.
+pub fn read(image: &[u8], lent: usize) -> Result<(Catalogue, Vec<u64>), Fault> {
+    let mut reader = Reader { image, place: 0 };
+    let mut catalogue = Catalogue::default();
+    let mut cells = Vec::new();
+    reader.meant(Refusal::Version, |version| version == 1)?;
+    let m = reader.meant(Refusal::Range, attributes_fit)?;
+    let n = reader.meant(Refusal::Range, tables_fit)?;
+    catalogue.m = m;
+    catalogue.n = n;
+    for table in 0..n as usize {
+        catalogue.schemes[table] = reader.meant(Refusal::Scheme, |scheme| scheme_fits(scheme, m))?;
+        let place = reader.place;
+        catalogue.rows[table] = reader.meant(Refusal::Rows, |rows| rows <= ROWS)? as u16;
+        if cells.len() + catalogue.size(table) > lent.min(CELLS) {
+            return Err(Fault { refusal: Refusal::Cells, place });
+        }
+        let mut previous: Option<Vec<u64>> = None;
+        for _ in 0..catalogue.rows[table] {
+            let place = reader.place;
+            let mut row = Vec::new();
+            for _ in 0..catalogue.width(table) {
+                row.push(reader.number()?);
+            }
+            if previous.is_some_and(|previous| previous >= row) {
+                return Err(Fault { refusal: Refusal::Order, place });
+            }
+            cells.extend_from_slice(&row);
+            previous = Some(row);
+        }
+    }
+    if reader.place < image.len() {
+        return Err(Fault { refusal: Refusal::Surplus, place: reader.place });
+    }
+    Ok((catalogue, cells))
+}
+
+/// Loads an image into the lent cells.
+/// A refusal leaves them untouched; success writes the cells and leaves those behind them.
+pub fn load(image: &[u8], lent: &mut [u64]) -> Result<Catalogue, Fault> {
+    let (catalogue, cells) = read(image, lent.len())?;
+    lent[..cells.len()].copy_from_slice(&cells);
+    Ok(catalogue)
+}
+
+/// The image of the tables, or the first fault in image order: 4; per table 5, 6, 8 and then per row 10, 7.
+/// A table's rows are checked before the next table's entries.
+pub fn form(catalogue: &Catalogue, cells: &[u64]) -> Result<Vec<u8>, Refusal> {
+    let mut image = Vec::new();
+    check_range(catalogue)?;
+    for number in [1, catalogue.m, catalogue.n] {
+        numbers::encode(number, &mut image);
+    }
+    let mut place = 0;
+    for table in 0..catalogue.n as usize {
+        check_table(catalogue, table, place, cells.len())?;
+        numbers::encode(catalogue.schemes[table], &mut image);
+        numbers::encode(u64::from(catalogue.rows[table]), &mut image);
+        let mut previous: Option<&[u64]> = None;
+        for _ in 0..catalogue.rows[table] {
+            let row = &cells[place..place + catalogue.width(table)];
+            if row.iter().any(|&code| code >= 1 << 63) {
+                return Err(Refusal::Code);
+            }
+            if previous.is_some_and(|previous| previous >= row) {
+                return Err(Refusal::Order);
+            }
+            for &code in row {
+                numbers::encode(code, &mut image);
+            }
+            previous = Some(row);
+            place += row.len();
+        }
+    }
+    Ok(image)
+}
+
+/// Writes the tables' image to the front of the lent bytes and gives its length.
+/// 11 comes last; a refusal writes nothing, and bytes behind the length stay.
+pub fn write(catalogue: &Catalogue, cells: &[u64], out: &mut [u8]) -> Result<usize, Refusal> {
+    let image = form(catalogue, cells)?;
+    if out.len() < image.len() {
+        return Err(Refusal::Short);
+    }
+    out[..image.len()].copy_from_slice(&image);
+    Ok(image.len())
+}

@@ -1,0 +1,192 @@
+//! All that a stream call is lent, once for each side, and the calls made on both.
+use crate::lent::Lent;
+use crate::library;
+use crate::make::Tables;
+use crate::random::Random;
+use crate::rule::{self, Answer, Outcome, Record, Store, Stop};
+use crate::tally::Tally;
+use crate::words::{self, Call, CATALOGUE, RECORD, RESULT};
+
+/// The slices lent to open and to a stream call.
+/// Each stands between guard words.
+#[derive(Clone, PartialEq, Eq)]
+pub struct Lending {
+    pub catalogue: Lent<u64>,
+    pub cells: Lent<u64>,
+    pub keys: Lent<u64>,
+    pub left: Lent<u16>,
+    pub right: Lent<u16>,
+    pub record: Lent<u64>,
+    pub padded: Lent<u64>,
+    pub result: Lent<u64>,
+}
+
+impl Lending {
+    /// What a caller lends for these tables and a store of so many records.
+    /// All but the tables starts as a random pattern; here and there a slice is longer than needed.
+    pub fn of(random: &mut Random, tables: &Tables, records: usize) -> Lending {
+        let mut more = |needed: usize| needed + [0, 0, 0, 1, 3][random.range(0, 4)];
+        let (keys, left, right) = (more(records), more(records), more(records));
+        let (record, padded, result) = (more(RECORD), more(tables.catalogue.m as usize), more(RESULT));
+        let mut words = words::words_of(&tables.catalogue).to_vec();
+        words.resize(more(CATALOGUE), 7);
+        let mut cells = tables.cells.clone();
+        cells.resize(more(cells.len()), 7);
+        Lending {
+            catalogue: Lent::holding(&words, random),
+            cells: Lent::holding(&cells, random),
+            keys: Lent::pattern(keys, random),
+            left: Lent::pattern(left, random),
+            right: Lent::pattern(right, random),
+            record: Lent::pattern(record, random),
+            padded: Lent::pattern(padded, random),
+            result: Lent::pattern(result, random),
+        }
+    }
+
+    /// How many records the store has.
+    /// The shortest slice counts.
+    pub fn records(&self) -> usize {
+        self.keys.length().min(self.left.length()).min(self.right.length()).min(rule::RECORDS)
+    }
+
+    /// The stream record, if its slice holds one.
+    /// For choosing damage and for counting.
+    pub fn stream_record(&self) -> Option<Record> {
+        let words = self.record.slice();
+        (words.len() >= RECORD).then(|| Record { found: words[0], taken: words[1], next_row: words[2] })
+    }
+
+    /// N as the catalogue has it.
+    /// The catalogue's slice holds one.
+    pub fn total(&self) -> u64 {
+        let words = self.catalogue.slice();
+        words[10..10 + words[1].min(8) as usize].iter().fold(0, |sum: u64, &rows| sum.saturating_add(rows))
+    }
+
+    /// The name of the first slice in which two lendings differ.
+    /// Guard words count.
+    fn difference(&self, other: &Lending) -> Option<&'static str> {
+        let differs = [
+            ("catalogue", self.catalogue != other.catalogue),
+            ("cells", self.cells != other.cells),
+            ("keys", self.keys != other.keys),
+            ("left links", self.left != other.left),
+            ("right links", self.right != other.right),
+            ("record", self.record != other.record),
+            ("padded row", self.padded != other.padded),
+            ("result", self.result != other.result),
+        ];
+        differs.iter().find(|(_, differs)| *differs).map(|(name, _)| *name)
+    }
+
+    /// The lent words in print, long slices cut.
+    /// For the report of a difference.
+    fn print(&self) -> String {
+        let first = |words: &[u64]| words.iter().take(40).map(u64::to_string).collect::<Vec<_>>().join(" ");
+        let links = |words: &[u16]| words.iter().take(40).map(u16::to_string).collect::<Vec<_>>().join(" ");
+        format!(
+            "\n  catalogue {}\n  cells ({}) {}\n  keys ({}) {}\n  left ({}) {}\n  right ({}) {}\n  record {}\n  padded ({}) {}\n  result {}",
+            first(self.catalogue.slice()), self.cells.length(), first(self.cells.slice()), self.keys.length(), first(self.keys.slice()),
+            self.left.length(), links(self.left.slice()), self.right.length(), links(self.right.slice()), first(self.record.slice()),
+            self.padded.length(), first(self.padded.slice()), first(self.result.slice())
+        )
+    }
+}
+
+/// The same lending on both sides.
+/// Damage is done to both alike, by `change`.
+pub struct Pair {
+    ours: Lending,
+    theirs: Lending,
+}
+
+/// Names of the six reasons for 13, in the rules' order.
+/// They are rows of the printed table.
+pub const MISFITS: [&str; 6] = ["13 found passes store", "13 taken passes found", "13 row passes N", "13 taken is 0", "13 found is 0", "13 N is 0"];
+
+impl Pair {
+    /// Lends the same to both sides.
+    /// The copies are apart in memory.
+    pub fn of(lending: Lending) -> Pair {
+        Pair { theirs: lending.clone(), ours: lending }
+    }
+
+    /// What is lent now, equal on both sides.
+    /// For reading.
+    pub fn lent(&self) -> &Lending {
+        &self.ours
+    }
+
+    /// Changes what is lent, on both sides alike.
+    /// For damage, longer stores and slices cut short.
+    pub fn change(&mut self, change: impl FnOnce(&mut Lending)) {
+        change(&mut self.ours);
+        self.theirs = self.ours.clone();
+    }
+
+    /// Fails if the sides' answers or any lent word differ.
+    /// `before` is what was lent to the call.
+    fn same(&self, call: &str, ours: u64, theirs: u64, before: &Lending) -> Result<(), String> {
+        hold!(ours == theirs, "{call} gives {theirs}, the peer {ours}; lent was{}", before.print());
+        if let Some(name) = self.ours.difference(&self.theirs) {
+            return Err(format!("{call} leaves another {name}:{}\nthe peer:{}\nlent was{}", self.theirs.print(), self.ours.print(), before.print()));
+        }
+        Ok(())
+    }
+
+    /// Opens on both sides and compares.
+    /// It gives the answer.
+    pub fn open(&mut self, tally: &mut Tally) -> Result<u64, String> {
+        let before = self.ours.clone();
+        let lent = &mut self.ours;
+        let mut store = Store { keys: lent.keys.slice_mut(), left: lent.left.slice_mut(), right: lent.right.slice_mut() };
+        let ours = words::open(lent.catalogue.slice(), lent.cells.slice(), &mut store, lent.record.slice_mut());
+        let lent = &mut self.theirs;
+        let mut store = Store { keys: lent.keys.slice_mut(), left: lent.left.slice_mut(), right: lent.right.slice_mut() };
+        let theirs = library::open(lent.catalogue.slice(), lent.cells.slice(), &mut store, lent.record.slice_mut());
+        tally.meet("open", if ours == 0 { "0 without rows".to_string() } else { (ours % 32).to_string() });
+        self.same("open", ours, theirs, &before)?;
+        Ok(ours)
+    }
+
+    /// Makes one stream call on both sides and compares.
+    /// It gives the answer.
+    pub fn next(&mut self, budget: u64, tally: &mut Tally) -> Result<u64, String> {
+        let before = self.ours.clone();
+        let lent = &mut self.ours;
+        let mut store = Store { keys: lent.keys.slice_mut(), left: lent.left.slice_mut(), right: lent.right.slice_mut() };
+        let call = Call { record: lent.record.slice_mut(), budget, padded: lent.padded.slice_mut(), result: lent.result.slice_mut() };
+        let (ours, outcome) = words::next(lent.catalogue.slice(), lent.cells.slice(), &mut store, call);
+        let lent = &mut self.theirs;
+        let mut store = Store { keys: lent.keys.slice_mut(), left: lent.left.slice_mut(), right: lent.right.slice_mut() };
+        let call = Call { record: lent.record.slice_mut(), budget, padded: lent.padded.slice_mut(), result: lent.result.slice_mut() };
+        let theirs = library::next(lent.catalogue.slice(), lent.cells.slice(), &mut store, call);
+        let trials = self.ours.result.slice().get(1).copied().unwrap_or(0);
+        tally.meet("next", name_of(outcome, &before, trials));
+        self.same(&format!("next with budget {budget}"), ours, theirs, &before)?;
+        Ok(ours)
+    }
+}
+
+/// The name of an outcome in the printed table.
+/// 12 and 14 are told apart by whether trials had been done before; 13 by its reason.
+fn name_of(outcome: Option<Outcome>, before: &Lending, trials: u64) -> String {
+    let at_work = |name: &str| format!("{name}{}", if trials > 0 { " after trials" } else { "" });
+    match outcome {
+        None => "31".to_string(),
+        Some(Outcome::Answered(Answer::Set(_))) => at_work("set"),
+        Some(Outcome::Answered(Answer::Finished)) => at_work("finished"),
+        Some(Outcome::Answered(Answer::Working)) => at_work("working"),
+        Some(Outcome::Stopped(Stop::Full)) => at_work("12"),
+        Some(Outcome::Stopped(Stop::KeyHandedOut)) => at_work("14 key handed out"),
+        Some(Outcome::Stopped(Stop::KeyTriedOn)) => at_work("14 key tried on"),
+        Some(Outcome::Stopped(Stop::BadLink)) => at_work("14 link"),
+        Some(Outcome::Stopped(Stop::TooDeep)) => at_work("14 looks"),
+        Some(Outcome::Refused(refusal)) if refusal.number() == 13 => {
+            let reason = before.stream_record().and_then(|record| rule::misfit(&record, before.records(), before.total()));
+            MISFITS[reason.expect("13 has a reason")].to_string()
+        }
+        Some(Outcome::Refused(refusal)) => refusal.number().to_string(),
+    }
+}

@@ -1,0 +1,385 @@
+//! Random calls of open, next and covers on both sides.
+use crate::lending::{Lending, Pair, MISFITS};
+use crate::lent::Lent;
+use crate::library;
+use crate::make::{self, Tables};
+use crate::random::Random;
+use crate::refusal::Refusal;
+use crate::tally::Tally;
+use crate::words::{self, CATALOGUE, RECORD, RESULT};
+
+/// The answers that a run has to meet, call by call.
+/// A key that is tried on is tested at a call's first trial, so that way to 14 never comes after trials.
+const OPEN: [&str; 8] = ["0", "0 without rows", "4", "5", "6", "8", "12", "31"];
+const NEXT: [&str; 21] = [
+    "set", "set after trials", "finished", "finished after trials", "working", "working after trials", "4", "5", "6", "8", "11", "12",
+    "12 after trials", "14 key handed out", "14 key handed out after trials", "14 key tried on", "14 link", "14 link after trials", "14 looks",
+    "14 looks after trials", "31",
+];
+const COVERS: [&str; 3] = ["0", "1", "0 unequal length"];
+
+/// A budget for a call: none, a few, enough, or as many as can be said.
+/// Total is N.
+fn budget(random: &mut Random, total: u64) -> u64 {
+    match random.below(8) {
+        0 => 0,
+        1 => 1,
+        2 => 2,
+        3 | 4 => random.below(total + 2),
+        5 | 6 => total,
+        _ => random.pick(&[total + 1, 1 << 32, u64::MAX]),
+    }
+}
+
+/// Tables for a stream: small ones that join, some without rows, some as images have them.
+/// Now and then a cell is 2^63 or more, or rows repeat: stream calls take any cells.
+fn some_tables(random: &mut Random) -> Tables {
+    let most = random.pick(&[100, 400, 400, 3000]);
+    let mut tables = make::stream_tables(random, most);
+    match random.below(40) {
+        0 | 1 => {
+            tables.catalogue.rows = [0; 8];
+            tables.cells.clear();
+        }
+        2 => {
+            let other = make::any_tables(random);
+            if other.cells.len() < 600 {
+                tables = other;
+            }
+        }
+        3 if !tables.cells.is_empty() => {
+            let place = random.range(0, tables.cells.len() - 1);
+            tables.cells[place] = random.pick(&[1 << 63, u64::MAX, 2]);
+        }
+        _ => {}
+    }
+    tables
+}
+
+/// A key that may be damaged: 0, anything, rows that are there, one row too high, or a table from n on.
+/// The catalogue's words tell which rows are there.
+fn some_key(random: &mut Random, words: &[u64], key: u64) -> u64 {
+    let n = words[1].clamp(1, 8) as usize;
+    let table = random.range(0, n - 1);
+    match random.below(6) {
+        0 => 0,
+        1 => random.word() >> random.below(64),
+        2 | 3 => (0..n).fold(0, |key, table| key | random.below(words[10 + table].min(255) + 1) << (8 * table)),
+        4 => key & !(0xff << (8 * table)) | words[10 + table].saturating_add(1).min(255) << (8 * table),
+        _ if n < 8 => key | 1 << (8 * n + random.range(0, 63 - 8 * n)),
+        _ => key ^ 1 << random.below(64),
+    }
+}
+
+/// Damages the store: a key, a link, or links that lead in a circle.
+/// Nothing happens to a store without records.
+fn damage_store(random: &mut Random, lending: &mut Lending) {
+    let found = lending.record.slice().first().copied().unwrap_or(0).min(70_000);
+    let used = (found as usize).clamp(1, lending.records().max(1)).min(lending.records());
+    if used == 0 {
+        return;
+    }
+    let place = random.range(0, used - 1);
+    match random.below(4) {
+        0 | 1 => {
+            let key = some_key(random, lending.catalogue.slice(), lending.keys.slice()[place]);
+            let taken = lending.record.slice().get(1).copied().unwrap_or(0);
+            let aimed = random.pick(&[place, (taken as usize).min(used - 1), (taken as usize).clamp(1, used) - 1]);
+            lending.keys.slice_mut()[aimed] = key;
+        }
+        2 => {
+            let near = random.pick(&[0, 1, found, found + 1, 65_535]) as u16;
+            let link = if random.percent(50) { near } else { random.below(found + 1) as u16 };
+            let links = if random.percent(50) { &mut lending.left } else { &mut lending.right };
+            links.slice_mut()[place] = link;
+        }
+        _ => {
+            let goal = random.range(0, used - 1) as u16 + 1;
+            for record in 0..used {
+                lending.left.slice_mut()[record] = goal;
+                lending.right.slice_mut()[record] = goal;
+            }
+        }
+    }
+}
+
+/// Makes the store one long chain that every search follows, about as long as a search may be.
+/// The last record alone has another key, which some trial may seek.
+fn chain_store(random: &mut Random, lending: &mut Lending) {
+    let (words, total) = (lending.catalogue.slice(), lending.total().min(5000));
+    let length = (8 * words[1].min(8) as usize + random.range(0, 2)).min(lending.records());
+    let Some(record) = lending.stream_record() else {
+        return;
+    };
+    if length < 2 || record.found < 2 || record.found as usize > lending.records() {
+        return;
+    }
+    let other = lending.keys.slice()[random.range(1, record.found as usize - 1)];
+    for place in 0..length {
+        let link = if place + 1 < length { place as u16 + 2 } else { 0 };
+        lending.keys.slice_mut()[place] = if place + 1 < length { lending.keys.slice()[0] } else { other };
+        lending.left.slice_mut()[place] = link;
+        lending.right.slice_mut()[place] = link;
+    }
+    lending.record.slice_mut()[..RECORD].copy_from_slice(&[length as u64, 1, random.below(total + 1)]);
+}
+
+/// Damages the stream record, aimed at one of the six reasons for 13, or at random.
+/// A random record may still fit.
+fn damage_record(random: &mut Random, lending: &mut Lending) {
+    let (records, total) = (lending.records() as u64, lending.total().min(5000));
+    let Some(record) = lending.stream_record() else {
+        return;
+    };
+    let words = &mut lending.record.slice_mut()[..RECORD];
+    match random.below(7) {
+        0 => words[0] = random.pick(&[records + 1, records + 2, 65_536, 1 << 32, u64::MAX]),
+        1 => words[1] = random.pick(&[record.found.saturating_add(1), record.found.saturating_add(2), 65_536, u64::MAX]),
+        2 => words[2] = random.pick(&[total + 1, 65_536, u64::MAX]),
+        3 => words.copy_from_slice(&[record.found.max(1), 0, random.below(total + 1)]),
+        4 => words.copy_from_slice(&[0, 0, total]),
+        5 => words.copy_from_slice(&[records.min(1), 0, total]),
+        _ => {
+            let found = random.below(records + 1);
+            words.copy_from_slice(&[found, random.below(found + 1), random.below(total + 1)]);
+        }
+    }
+}
+
+/// Damages what is lent in one way.
+/// Some ways leave it good, which is compared as well.
+fn damage(random: &mut Random, lending: &mut Lending) {
+    let words = lending.catalogue.length();
+    if words < CATALOGUE {
+        return;
+    }
+    let cut = |random: &mut Random, lent: &Lent<u64>, needed: usize| {
+        let length = random.range(0, needed - 1);
+        let values = lent.slice()[..length.min(lent.length())].to_vec();
+        Lent::holding(&values, random)
+    };
+    match random.below(18) {
+        0..=4 => damage_store(random, lending),
+        16 | 17 => chain_store(random, lending),
+        5..=7 => damage_record(random, lending),
+        8 => {
+            let refusal = random.pick(&[4, 5, 6]);
+            make::spoil(random, lending.catalogue.slice_mut(), refusal);
+        }
+        9 => {
+            let length = lending.cells.length();
+            let shorter = length - random.range(0, length.min(5));
+            let values = lending.cells.slice()[..shorter].to_vec();
+            lending.cells = Lent::holding(&values, random);
+        }
+        10 => {
+            let m = (lending.catalogue.slice()[0] as usize).clamp(1, 63);
+            lending.padded = cut(random, &lending.padded, m);
+        }
+        11 => match random.below(3) {
+            0 => lending.catalogue = cut(random, &lending.catalogue, CATALOGUE),
+            1 => lending.record = cut(random, &lending.record, RECORD),
+            _ => lending.result = cut(random, &lending.result, RESULT),
+        },
+        12 => {
+            let table = random.below(8) as usize;
+            let count = &mut lending.catalogue.slice_mut()[10 + table];
+            *count = if random.percent(80) { count.saturating_sub(1) } else { count.saturating_add(1) };
+        }
+        13 => {
+            let n = lending.catalogue.slice()[1].min(8) as usize;
+            for table in n..8 {
+                lending.catalogue.slice_mut()[2 + table] = random.word();
+                lending.catalogue.slice_mut()[10 + table] = random.word();
+            }
+        }
+        14 if lending.cells.length() > 0 => {
+            let place = random.range(0, lending.cells.length() - 1);
+            lending.cells.slice_mut()[place] = random.pick(&[0, 2, 3]);
+        }
+        _ => {
+            let records = random.range(0, lending.records());
+            let keys = lending.keys.slice()[..records].to_vec();
+            lending.keys = Lent::holding(&keys, random);
+        }
+    }
+}
+
+/// Copies the records to a store that is longer, as a caller may after 12.
+/// The new records hold a pattern.
+fn lengthen(random: &mut Random, lending: &mut Lending) {
+    let records = lending.records();
+    let longer = records + random.pick(&[1, 1, 2, 30]);
+    let mut keys = Lent::pattern(longer, random);
+    let mut left = Lent::pattern(longer, random);
+    let mut right = Lent::pattern(longer, random);
+    keys.slice_mut()[..records].copy_from_slice(&lending.keys.slice()[..records]);
+    left.slice_mut()[..records].copy_from_slice(&lending.left.slice()[..records]);
+    right.slice_mut()[..records].copy_from_slice(&lending.right.slice()[..records]);
+    (lending.keys, lending.left, lending.right) = (keys, left, right);
+}
+
+/// A whole stream from open to finished, or until a full store is not made longer.
+/// The last call is made twice.
+fn drain(random: &mut Random, pair: &mut Pair, tally: &mut Tally) -> Result<(), String> {
+    if pair.open(tally)? % 32 != 0 {
+        return Ok(());
+    }
+    let total = pair.lent().total();
+    let patient = random.percent(70);
+    loop {
+        let budget = if patient { random.pick(&[total, u64::MAX, 1 + total / 2]) } else { budget(random, total) };
+        match pair.next(budget, tally)? {
+            32 | 96 => {}
+            64 => return pair.next(budget, tally).map(|_| ()),
+            answer if answer == Refusal::Full.number() && random.percent(80) => pair.change(|lending| lengthen(random, lending)),
+            _ => return Ok(()),
+        }
+    }
+}
+
+/// A stream that is moved on a little, damaged, and called a few times.
+/// Sometimes open itself is damaged.
+fn damaged_calls(random: &mut Random, pair: &mut Pair, tally: &mut Tally) -> Result<(), String> {
+    match random.below(8) {
+        0 => pair.change(|lending| damage(random, lending)),
+        1 => {
+            let refusal = random.pick(&[4, 5, 6]);
+            pair.change(|lending| make::spoil(random, lending.catalogue.slice_mut(), refusal));
+        }
+        _ => {}
+    }
+    pair.open(tally)?;
+    let total = if pair.lent().catalogue.length() < CATALOGUE { 0 } else { pair.lent().total().min(5000) };
+    for _ in 0..random.pick(&[0, 1, 1, 2, 3, 6]) {
+        pair.next(budget(random, total), tally)?;
+    }
+    for _ in 0..random.pick(&[1, 1, 1, 2, 3]) {
+        pair.change(|lending| damage(random, lending));
+    }
+    for _ in 0..random.range(1, 4) {
+        pair.next(budget(random, total), tally)?;
+    }
+    Ok(())
+}
+
+/// Two padded rows, mostly of one length, with few values so that all answers are met.
+/// Now and then a code is anything.
+fn compare_covers(random: &mut Random, tally: &mut Tally) -> Result<(), String> {
+    let length = random.range(0, 5);
+    let other = if random.percent(85) { length } else { random.range(0, 5) };
+    let highest = random.pick(&[2, 2, 3]);
+    let row = |random: &mut Random, length: usize| (0..length).map(|_| random.below(highest)).collect::<Vec<u64>>();
+    let (mut first, mut second) = (row(random, length), row(random, other));
+    if random.percent(20) && length > 0 && other > 0 {
+        first[0] = random.pick(&[1, 1 << 32 | 1, 1 << 63, u64::MAX]);
+        second[0] = random.pick(&[1, 1 << 32 | 1, 1 << 63, u64::MAX]);
+    }
+    let (ours, theirs) = (words::covers(&first, &second), library::covers(&first, &second));
+    tally.meet("covers", if length == other { ours.to_string() } else { format!("{ours} unequal length") });
+    hold!(ours == theirs, "covers gives {theirs}, the peer {ours}: {first:?} {second:?}");
+    Ok(())
+}
+
+/// One comparison: a drain or damaged calls, and three pairs of padded rows.
+/// The store is small, so that it is often full.
+fn compare_one(random: &mut Random, tally: &mut Tally) -> Result<(), String> {
+    for _ in 0..3 {
+        compare_covers(random, tally)?;
+    }
+    let tables = some_tables(random);
+    let records = random.pick(&[0, 1, 2, 3, 5, 9, 30, 100, 100]);
+    let mut pair = Pair::of(Lending::of(random, &tables, records));
+    if random.percent(35) && tables.cells.len() < 300 {
+        drain(random, &mut pair, tally)
+    } else {
+        damaged_calls(random, &mut pair, tally)
+    }
+}
+
+/// The edges of the longest store: it never has more than 65,535 records, whatever is lent.
+/// Two rows of one table; the first set is handed out, and the trial of row 2 looks for key 2. Record 1 can be handed out.
+fn longest_store(random: &mut Random, tally: &mut Tally) -> Result<(), String> {
+    let mut tables = make::star(&[2]);
+    tables.cells = vec![2, 2, 3, 3];
+    let edges = [(65_534, 65_535, 32), (65_534, 65_534, 12), (65_535, 65_535, 12), (65_535, 65_536, 12), (65_535, 70_000, 12), (65_536, 70_000, 13)];
+    for (found, lent, answer) in edges {
+        let mut lending = Lending::of(random, &tables, 0);
+        lending.keys = Lent::pattern(lent, random);
+        lending.left = Lent::pattern(lent, random);
+        lending.right = Lent::pattern(lent + 1, random);
+        lending.keys.slice_mut()[..2].copy_from_slice(&[1, 1]);
+        lending.left.slice_mut()[0] = 0;
+        lending.record.slice_mut()[..RECORD].copy_from_slice(&[found, 1, 1]);
+        let mut pair = Pair::of(lending);
+        let got = pair.next(1, tally)?;
+        hold!(got == answer, "a store of {lent} with {found} found gives {got} instead of {answer}");
+        let link = if answer == 32 { 65_535 } else { 0 };
+        hold!(pair.lent().left.slice()[0] == link, "a store of {lent} with {found} found leaves another link");
+    }
+    Ok(())
+}
+
+/// Sets written down by hand: each is its key and its padded row.
+/// They stand in the order of handing out.
+type Sets = &'static [(u64, &'static [u64])];
+
+/// Drains one stream on both sides and compares it with sets written down by hand.
+/// Behind the last of them the stream is finished.
+fn written_down(random: &mut Random, tally: &mut Tally, name: &str, image: &str, sets: Sets) -> Result<(), String> {
+    let (catalogue, cells) = crate::image::read(&crate::edges::hex(image), 8192).map_err(|fault| format!("{name}: {fault:?}"))?;
+    let tables = Tables { catalogue, cells };
+    let mut pair = Pair::of(Lending::of(random, &tables, 20));
+    pair.open(tally)?;
+    for (key, padded) in sets {
+        hold!(pair.next(u64::MAX, tally)? == 32, "edge {name}: no set");
+        let lent = pair.lent();
+        hold!(lent.result.slice()[0] == *key, "edge {name}: key {} instead of {key}", lent.result.slice()[0]);
+        hold!(lent.padded.slice().starts_with(padded), "edge {name}: another padded row");
+    }
+    hold!(pair.next(u64::MAX, tally)? == 64, "edge {name}: not finished");
+    Ok(())
+}
+
+/// The stream's edges, each with its sets written by hand.
+/// Codes are values plus 1.
+fn edges(random: &mut Random, tally: &mut Tally) {
+    let two = "01 01 02 01 01";
+    let cases: [(&str, String, Sets); 9] = [
+        ("P no rows", "01 01 01 01 00".to_string(), &[]),
+        ("P one null row", "01 01 01 01 01 00".to_string(), &[(1, &[0])]),
+        ("P values 10 and 4,294,967,306", format!("{two} 0B 01 01 8B 80 80 80 10"), &[(1, &[11]), (0x100, &[4_294_967_307])]),
+        ("values 10 and 10", format!("{two} 0B 01 01 0B"), &[(0x101, &[11])]),
+        ("P null and null", format!("{two} 00 01 01 00"), &[(1, &[0]), (0x100, &[0])]),
+        ("nothing shared", "01 02 02 01 01 02 02 01 02".to_string(), &[(1, &[2, 0]), (0x100, &[0, 2])]),
+        ("two sets with one padded row", "01 02 02 03 01 02 00 03 01 02 00".to_string(), &[(1, &[2, 0]), (0x100, &[2, 0])]),
+        ("connected later", "01 03 03 03 01 02 02 04 01 02 06 01 02 02".to_string(), &[(0x1_0101, &[2, 2, 2])]),
+        ("an early null does not block", "01 03 03 03 01 02 00 05 01 02 03 06 01 05 03".to_string(), &[(0x101, &[2, 0, 3]), (0x1_0100, &[2, 5, 3])]),
+    ];
+    for (name, image, sets) in cases {
+        let result = written_down(random, tally, name, &image, sets);
+        tally.compare(result);
+    }
+    let result = longest_store(random, tally);
+    tally.compare(result);
+}
+
+/// Compares the edges and so many random cases on both sides.
+/// `least` is how often each answer has to be met.
+pub fn compare(cases: u64, seed: u64, least: u64) -> bool {
+    let mut random = Random::new(seed);
+    let mut tally = Tally::default();
+    if library::MOCK {
+        println!("MOCK: the peer is compared with itself");
+    }
+    edges(&mut random, &mut tally);
+    for case in 0..cases {
+        let result = compare_one(&mut random, &mut tally).map_err(|words| format!("case {case}: {words}"));
+        tally.compare(result);
+    }
+    let next: Vec<&str> = NEXT.iter().chain(&MISFITS).copied().collect();
+    tally.table("open", &OPEN, least);
+    tally.table("next", &next, least);
+    tally.table("covers", &COVERS, least);
+    tally.end()
+}

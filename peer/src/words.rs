@@ -1,0 +1,134 @@
+//! The peer's functions in the form of the C calls: over slices of words, with one number as the answer.
+use crate::image::{self, Catalogue};
+use crate::rule::{self, Answer, Counts, Outcome, Record, Store};
+
+/// The words of a catalogue, a record and a result.
+/// Longer slices are lent too; the words behind stay.
+pub const CATALOGUE: usize = 18;
+pub const RECORD: usize = 3;
+pub const RESULT: usize = 4;
+
+/// The answer when a word slice is too short.
+/// Nothing is then changed.
+pub const SHORT_SLICE: u64 = 31;
+
+/// A catalogue from its words: m, n, eight schemes, eight row counts.
+/// A row count above 65,535 counts as 65,535.
+pub fn catalogue_of(words: &[u64]) -> Catalogue {
+    let mut catalogue = Catalogue { m: words[0], n: words[1], ..Catalogue::default() };
+    for table in 0..8 {
+        catalogue.schemes[table] = words[2 + table];
+        catalogue.rows[table] = words[10 + table].min(65_535) as u16;
+    }
+    catalogue
+}
+
+/// The words of a catalogue.
+/// The order is the same.
+pub fn words_of(catalogue: &Catalogue) -> [u64; CATALOGUE] {
+    let mut words = [0; CATALOGUE];
+    words[0] = catalogue.m;
+    words[1] = catalogue.n;
+    for table in 0..8 {
+        words[2 + table] = catalogue.schemes[table];
+        words[10 + table] = u64::from(catalogue.rows[table]);
+    }
+    words
+}
+
+/// The C door: place x 32 + refusal, and 0 for good.
+/// There is room for 8,192 cells.
+pub fn check(image: &[u8]) -> u64 {
+    match image::read(image, image::CELLS) {
+        Ok(_) => 0,
+        Err(fault) => fault.place as u64 * 32 + fault.refusal.number(),
+    }
+}
+
+/// Load: place x 32 + refusal, and 0 for good.
+/// A refusal gives a catalogue of zeros.
+pub fn load(image: &[u8], cells: &mut [u64], catalogue: &mut [u64]) -> u64 {
+    if catalogue.len() < CATALOGUE {
+        return SHORT_SLICE;
+    }
+    let (answer, loaded) = match image::load(image, cells) {
+        Ok(loaded) => (0, loaded),
+        Err(fault) => (fault.place as u64 * 32 + fault.refusal.number(), Catalogue::default()),
+    };
+    catalogue[..CATALOGUE].copy_from_slice(&words_of(&loaded));
+    answer
+}
+
+/// Write: length x 32 + refusal.
+/// The length is 0 with a refusal.
+pub fn write(catalogue: &[u64], cells: &[u64], out: &mut [u8]) -> u64 {
+    if catalogue.len() < CATALOGUE {
+        return SHORT_SLICE;
+    }
+    match image::write(&catalogue_of(catalogue), cells, out) {
+        Ok(length) => length as u64 * 32,
+        Err(refusal) => refusal.number(),
+    }
+}
+
+/// Open: row tests x 32 + refusal, with the record in three words.
+/// A refusal gives a record of zeros and no row tests.
+pub fn open(catalogue: &[u64], cells: &[u64], store: &mut Store, record: &mut [u64]) -> u64 {
+    if catalogue.len() < CATALOGUE || record.len() < RECORD {
+        return SHORT_SLICE;
+    }
+    let (answer, opened) = match rule::open(&catalogue_of(catalogue), cells, store) {
+        Ok((opened, row_tests)) => (row_tests * 32, opened),
+        Err(refusal) => (refusal.number(), Record::default()),
+    };
+    put_record(&opened, record);
+    answer
+}
+
+/// Writes a record's three words.
+/// Words behind them stay.
+fn put_record(moved: &Record, record: &mut [u64]) {
+    record[..RECORD].copy_from_slice(&[moved.found, moved.taken, moved.next_row]);
+}
+
+/// A stream call's answer as a number: answer x 32 + refusal.
+/// 0 refused, 1 set, 2 finished, 3 working.
+fn answer_of(outcome: &Outcome) -> u64 {
+    match outcome {
+        Outcome::Refused(refusal) => refusal.number(),
+        Outcome::Stopped(stop) => stop.refusal().number(),
+        Outcome::Answered(Answer::Set(_)) => 32,
+        Outcome::Answered(Answer::Finished) => 2 * 32,
+        Outcome::Answered(Answer::Working) => 3 * 32,
+    }
+}
+
+/// What a call lends beside the tables and the store.
+/// One record, so that the two sides' lists of arguments stay short.
+pub struct Call<'a> {
+    pub record: &'a mut [u64],
+    pub budget: u64,
+    pub padded: &'a mut [u64],
+    pub result: &'a mut [u64],
+}
+
+/// Stream call: the answer, the moved record, and key, trials, row tests and looks in the result.
+/// The outcome beside the answer is for counting only; a short slice has none.
+pub fn next(catalogue: &[u64], cells: &[u64], store: &mut Store, call: Call) -> (u64, Option<Outcome>) {
+    if catalogue.len() < CATALOGUE || call.record.len() < RECORD || call.result.len() < RESULT {
+        return (SHORT_SLICE, None);
+    }
+    let mut record = Record { found: call.record[0], taken: call.record[1], next_row: call.record[2] };
+    let (outcome, counts) = rule::next(&catalogue_of(catalogue), cells, store, &mut record, call.budget, call.padded);
+    put_record(&record, call.record);
+    let key = if let Outcome::Answered(Answer::Set(key)) = outcome { key } else { 0 };
+    let Counts { trials, row_tests, looks } = counts;
+    call.result[..RESULT].copy_from_slice(&[key, trials, row_tests, looks]);
+    (answer_of(&outcome), Some(outcome))
+}
+
+/// Covers: 1 for yes, 0 for no.
+/// The slices are padded rows of any length.
+pub fn covers(first: &[u64], second: &[u64]) -> u64 {
+    u64::from(rule::covers(first, second))
+}
