@@ -4,10 +4,11 @@ ghost use mathlib.Core.Path.{_≡_};
 ghost use Prim.Native.Nat.{_*_, _<_, _≤_, _^_};
 ghost use Rattle.keys.specs.Keys.{bitsPerRow, mostTables, rowOf, withRow};
 
-// How many bits of a key a table has, and the word with all of them set.
+// How many bits of a key a row number has.
 const BITS_PER_ROW: usize = 8;
 
-const ROW_MASK: u64 = 255;
+// The word with all of them set.
+const ROW_MASK: u64 = (1 << BITS_PER_ROW) - 1;
 
 // The row number of table t in a key, or 0 where the set has no row of it.
 // Everything that looks into a set reads its key by this.

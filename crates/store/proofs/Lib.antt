@@ -1,3 +1,4 @@
 pub mod LookLaws
 pub mod Tree
 pub mod StoreLaws
+pub mod Sample

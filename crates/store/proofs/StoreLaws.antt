@@ -1,6 +1,6 @@
 -- The store of one-word keys in three lists, at w bits for each of n rows: what holds of every store, of a copy of one, and the laws of Tree for a
 -- good one. `offered` is what the proof of a stream cites. Assumes nothing.
-use Prim.Native.Nat.{ℕ, zero, suc, _+_, _-_, _*_, _^_, _≤_, _<_, min}
+use Prim.Native.Nat.{ℕ, _+_, _-_, _*_, _^_, _<_}
 use mathlib.Core.Bool.{Bool, true, false, not, cond, Bool-discrete}
 use mathlib.Core.List.{List}
 use mathlib.Core.Logic.{_⊎_, inl, inr, ⊎-elim}
@@ -11,15 +11,13 @@ use native.Mathlib.Omega.{arith}
 use lib.Dec.{eqb, ltb}
 use lib.ListN.{length, getD, set, length-set}
 use lib.Seq.{getD-set-same, getD-set-other}
-use borrow.Author.Tests.{eqb-true, eqb-false, not-true, lt-ltb}
-use Rattle.laws.proofs.TestLaws.{which}
+use borrow.Author.Tests.{eqb-true, eqb-false, ltb-true, not-true}
 use Rattle.words.specs.Words.{bitOf}
 use Rattle.words.proofs.WordLaws.{bits-eq}
-use Rattle.store.specs.Store.{Store, roomOf, roomIn, linkOf, searchOf, filed, named, added, answerOf, storeAfter, Copy}
+use Rattle.store.specs.Store.{Store, roomIn, linkOf, searchOf, filed, named, added, answerOf, storeAfter, Copy}
 use Rattle.store.specs.declared.Looked.{Looked}
 use Rattle.store.specs.declared.Looked.the-variants.{Found, Absent, Damaged}
-use Rattle.store.specs.declared.Placed.{Placed}
-use Rattle.store.specs.declared.Placed.the-variants.{Known, Added, Full, Broken}
+use Rattle.store.specs.declared.Placed.the-variants.{Added, Full, Broken}
 use Rattle.store.proofs.LookLaws.{Inside, walk-inside, walk-copy}
 use Rattle.store.proofs.Tree.{Telling, Tree, New, Outcome, Grown, single, moved, searched, grown, deepen}
 
@@ -32,13 +30,13 @@ linkAt q = linkOf (q .left) (q .right)
 
 -- ---- every store
 
-pub inside : (q : Store) (k deepest : ℕ) → 0 < q .found → Inside (q .found) deepest (searchOf q k deepest)
+pub search-inside : (q : Store) (k deepest : ℕ) → 0 < q .found → Inside (q .found) deepest (searchOf q k deepest)
 unfolding searchOf
-inside q k deepest l = walk-inside (λ p. eqb (keyAt q p) k) (bitOf k) (linkAt q) (q .found) deepest deepest 0 0 (omega arith) l
+search-inside q k deepest l = walk-inside (λ p. eqb (keyAt q p) k) (bitOf k) (linkAt q) (q .found) deepest deepest 0 0 (omega arith) l
 
 -- The record whose empty link ended a search is one of the store's.
-pub placed : (q : Store) (k deepest : ℕ) {p : ℕ} {s : Bool} {n : ℕ} → 0 < q .found → Absent p s n ≡ searchOf q k deepest → p < q .found
-placed q k deepest l e = subst (Inside (q .found) deepest) (sym e) (inside q k deepest l) .0
+pub absent-place : (q : Store) (k deepest : ℕ) {p : ℕ} {s : Bool} {n : ℕ} → 0 < q .found → Absent p s n ≡ searchOf q k deepest → p < q .found
+absent-place q k deepest l e = subst (Inside (q .found) deepest) (sym e) (search-inside q k deepest l) .0
 
 -- A refused offer leaves the store as it was.
 pub refused-stays : (q : Store) (k : ℕ) (a : Looked) → (answerOf q a ≡ Full) ⊎ (answerOf q a ≡ Broken) → storeAfter q k a ≡ q
@@ -193,21 +191,21 @@ telling w n = record { same = eqb; yes-same = eqb-true; not-same = eqb-false; ap
 abbrev pub StoreTree : ℕ → ℕ → Store → (ℕ → ℕ) → Type 0
 StoreTree w n q depth = Tree bitOf (Key w n) (q .found) (keyAt q) (linkAt q) depth
 
-abbrev pub Good : ℕ → ℕ → Store → Type 0
-Good w n q = (depth : ℕ → ℕ) × StoreTree w n q depth
+abbrev pub GoodStore : ℕ → ℕ → Store → Type 0
+GoodStore w n q = (depth : ℕ → ℕ) × StoreTree w n q depth
 
 -- A key is among the records.
 abbrev pub Stored : Store → ℕ → Type 0
 Stored q k = (p : ℕ) × (p < q .found) × (keyAt q p ≡ k)
 
 -- What a search of a good store answers.
-pub answers : (w n : ℕ) (q : Store) (depth : ℕ → ℕ) → StoreTree w n q depth → (k : ℕ) → Key w n k
+pub search-answers : (w n : ℕ) (q : Store) (depth : ℕ → ℕ) → StoreTree w n q depth → (k : ℕ) → Key w n k
     → Outcome bitOf (q .found) (keyAt q) (linkAt q) depth k (searchOf q k (w * n))
 unfolding searchOf
-answers w n q depth t k g = searched bitOf (w * n) (Key w n) (telling w n) (q .found) (keyAt q) (linkAt q) depth t k g
+search-answers w n q depth t k g = searched bitOf (w * n) (Key w n) (telling w n) (q .found) (keyAt q) (linkAt q) depth t k g
 
 -- The store of one record is good.
-pub started : (w n : ℕ) (q : Store) (k : ℕ) → q .found ≡ 0 → 0 < roomIn q → Key w n k → Good w n (filed q k)
+pub started : (w n : ℕ) (q : Store) (k : ℕ) → q .found ≡ 0 → 0 < roomIn q → Key w n k → GoodStore w n (filed q k)
 unfolding filed linkOf
 started w n q k e l g = (
   (λ p. 0),
@@ -231,7 +229,7 @@ added-good w n q depth t k g p s looks e l =
     (added-cells q k p s (e .here) l)
 
 -- A copy of a good store is good.
-pub copy-good : (w n : ℕ) (q r : Store) → Copy q r → Good w n q → Good w n r
+pub copy-good : (w n : ℕ) (q r : Store) → Copy q r → GoodStore w n q → GoodStore w n r
 copy-good w n q r c (depth, t) = (
   depth,
   subst (λ (x : ℕ). Tree bitOf (Key w n) x (keyAt r) (linkAt r) depth) (sym (c .found))
@@ -243,11 +241,11 @@ copy-good w n q r c (depth, t) = (
 -- Found: the key is stored. Absent: it is not, and with a record free the store that has it is good. Damaged: never.
 abbrev pub Offered : ℕ → ℕ → Store → ℕ → Looked → Type 0
 Offered w n q k (Found p looks) = Stored q k
-Offered w n q k (Absent p s looks) = (Stored q k → ⊥) × (q .found < roomIn q → Good w n (added q k p s))
+Offered w n q k (Absent p s looks) = (Stored q k → ⊥) × (q .found < roomIn q → GoodStore w n (added q k p s))
 Offered w n q k (Damaged looks) = ⊥
 
-pub offered : (w n : ℕ) (q : Store) → Good w n q → (k : ℕ) → Key w n k → Offered w n q k (searchOf q k (w * n))
-offered w n q (depth, t) k g = by (searchOf q k (w * n)) (answers w n q depth t k g)
+pub offered : (w n : ℕ) (q : Store) → GoodStore w n q → (k : ℕ) → Key w n k → Offered w n q k (searchOf q k (w * n))
+offered w n q (depth, t) k g = by (searchOf q k (w * n)) (search-answers w n q depth t k g)
   where
     by : (a : Looked) → Outcome bitOf (q .found) (keyAt q) (linkAt q) depth k a → Offered w n q k a
     by (Found p looks) e = (p, e .here, e .it)
@@ -256,3 +254,27 @@ offered w n q (depth, t) k g = by (searchOf q k (w * n)) (answers w n q depth t 
       (λ l. (deepen (q .found) depth p, added-good w n q depth t k g p s looks e l)),
     )
     by (Damaged looks) e = e
+
+-- A stored key is found.
+pub stored-found : (w n : ℕ) (q : Store) → GoodStore w n q → (k : ℕ) → Key w n k → Stored q k → (p looks : ℕ) × (searchOf q k (w * n) ≡ Found p looks)
+stored-found w n q t k g h = by (searchOf q k (w * n)) (offered w n q t k g)
+  where
+    by : (a : Looked) → Offered w n q k a → (p looks : ℕ) × (a ≡ Found p looks)
+    by (Found p looks) e = (p, looks, refl)
+    by (Absent p s looks) e = absurd (e .0 h)
+    by (Damaged looks) e = absurd e
+
+-- An offer keeps the store good.
+pub after-good : (w n : ℕ) (q : Store) → GoodStore w n q → (k : ℕ) → Key w n k → GoodStore w n (storeAfter q k (searchOf q k (w * n)))
+unfolding storeAfter
+after-good w n q t k g = by (searchOf q k (w * n)) (offered w n q t k g)
+  where
+    free : (p : ℕ) (s : Bool) → (q .found < roomIn q → GoodStore w n (added q k p s)) → (b : Bool) → ltb (q .found) (roomIn q) ≡ b
+        → GoodStore w n (cond b (added q k p s) q)
+    free p s h true e = h (ltb-true _ _ e)
+    free p s h false e = t
+
+    by : (a : Looked) → Offered w n q k a → GoodStore w n (storeAfter q k a)
+    by (Found p looks) e = t
+    by (Absent p s looks) e = free p s (e .1) (ltb (q .found) (roomIn q)) refl
+    by (Damaged looks) e = absurd e

@@ -35,6 +35,7 @@ module _ {K : Type 0} (bit : K → ℕ → Bool) where
     pub turned : bit (key (l - 1)) (depth p) ≡ s
     pub along : Agree (key (l - 1)) (key p) (depth p)
 
+  -- A store is good: it has a record 0 at depth 0, only good keys and none twice, every link leads to a child, and every record is reached.
   pub record Tree (Good : K → Type 0) (found : ℕ) (key : ℕ → K) (link : Bool → ℕ → ℕ) (depth : ℕ → ℕ) : Type 0 where
     pub some : 0 < found
     pub root : depth 0 ≡ 0

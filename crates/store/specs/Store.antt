@@ -34,15 +34,16 @@ roomIn q = roomOf (length (q .keys)) (length (q .left)) (length (q .right))
 
 -- ---- a search
 
--- "Bit d of the sought key chooses left for 0, right for 1. A link holds the record's place plus 1; 0 means absent."
+-- ".. chooses left for 0, right for 1. A link holds the record's place plus 1; 0 means absent." A side is true for right.
 unfoldable pub linkOf : List ℕ → List ℕ → Bool → ℕ → ℕ
 linkOf left right true p = getD right p 0
 linkOf left right false p = getD left p 0
 
--- "A look compares the record's key. If it differs, bit d of the sought key at depth d chooses." 14 is met "when a link that a search follows passes
--- found, or when look 8n + 1 finds another key than the sought one (no bit is then taken and no link followed)".
+-- "A look compares the record's key. If it differs, bit d of the sought key at depth d (lowest is bit 0) chooses left for 0, right for 1."
+-- "14 is met .. when a link that a search follows passes found, or when look 8n + 1 finds another key than the sought one (no bit is then taken and
+-- no link followed)."
 -- `hit p`: record p has the sought key. `bit d`: the sought key's bit d. `link s p`: the link of record p on side s.
--- The numbers are the bits that are left to turn by (and so the looks that are left after this one), the depth, and the place.
+-- The search goes on with so many bits left to turn by (as many looks are left after this one), at a depth, at the record of a place.
 module _ (hit bit : ℕ → Bool) (link : Bool → ℕ → ℕ) (found : ℕ) where
   unfoldable pub walk : ℕ → ℕ → ℕ → Looked
   walk zero d p = cond (hit p) (Found p (d + 1)) (Damaged (d + 1))
@@ -56,7 +57,7 @@ module _ (hit bit : ℕ → Bool) (link : Bool → ℕ → ℕ) (found : ℕ) wh
 abbrev pub walkIn : Store → ℕ → ℕ → ℕ → ℕ → Looked
 walkIn q sought = walk (λ p. eqb (getD (q .keys) p 0) sought) (bitOf sought) (linkOf (q .left) (q .right)) (q .found)
 
--- .. and from the start: "a search for a key starts at record 0, depth 0."
+-- .. and from the start: "a search for a key starts at record 0, depth 0." Look 8n + 1 is the look at depth 8n, the deepest.
 unfoldable pub searchOf : Store → ℕ → ℕ → Looked
 searchOf q sought deepest = walkIn q sought deepest 0 0
 
@@ -88,7 +89,7 @@ added q key p s =
       found = filed q key .found;
     }
 
--- "If absent, the key becomes the next record. If no record is free, 12." What the search said decides the answer, ..
+-- "If absent, the key becomes the next record .. If no record is free, 12." What the search said decides the answer, ..
 unfoldable pub answerOf : Store → Looked → Placed
 answerOf q (Found p looks) = Known looks
 answerOf q (Absent p s looks) = cond (ltb (q .found) (roomIn q)) (Added looks) Full

@@ -6,6 +6,9 @@ ghost use lib.Dec.{eqb};
 ghost use lib.ListN.{length, getD};
 ghost use Rattle.store.specs.Store.{storeIn, roomOf, linkOf, searchOf, filed, added, Holds, OfferPost};
 
+// The most records of a store: a link is a place plus 1 in 16 bits.
+const MOST_RECORDS: usize = 65535;
+
 // What a search comes to, with the looks that it made.
 // Absent names the record and the side whose empty link ended it, so that the sought key can be added there.
 pub enum Looked {
@@ -40,12 +43,15 @@ fn least(a: usize, b: usize) -> usize
     if a < b { a } else { b }
 }
 
-// How many records the store has room for: the shortest slice counts, and a link has to fit its 16 bits.
+// How many records the store has room for: the shortest slice counts, and never more than 65,535.
 // Every caller asks it before a record is written.
 pub fn room(keys: &[u64], left: &[u16], right: &[u16]) -> usize
     ensures { λ r. ⌜ r ≡ roomOf (length (now (keys .entry))) (length (now (left .entry))) (length (now (right .entry))) ⌝ }
 {
-    least(least(least(65535, keys.len()), left.len()), right.len())
+    least(
+        least(least(MOST_RECORDS, keys.len()), left.len()),
+        right.len(),
+    )
 }
 
 // Is the sought key that of record p?

@@ -161,6 +161,15 @@ trailing-lowest (suc k) n p h = go (n % 2) refl (λ q. trailing-lowest k (n / 2)
         let f : n % 2 ≡ 1 = omega arith in
         record { narrow = omega arith; itself = first-bit n 1 f; below = λ i l. absurd (omega arith) }
 
+-- There is one lowest set bit.
+pub lowest-one : (v w k a b : ℕ) → LowestBit v k a → LowestBit w k b → a ≡ b
+lowest-one v w k a b x y = go (decLt a b) (decLt b a)
+  where
+    go : Dec (a < b) → Dec (b < a) → a ≡ b
+    go (yes l) m = absurd (clash (x .itself) (y .below a l))
+    go (no f) (yes m) = absurd (clash (y .itself) (x .below b m))
+    go (no f) (no g) = omega arith
+
 -- ---- a bit taken away
 
 -- A word less a bit that it has: the digit there becomes 0, and the others stay.
@@ -172,6 +181,9 @@ less-bit k a h =
     let s : k / 2 ^ a * 2 ^ a + k % 2 ^ a ≡ k = split k a in
     let m : k / 2 ^ a * 2 ^ a ≡ (k / 2 ^ a / 2 * 2) * 2 ^ a + 2 ^ a = ap (λ (x : ℕ). x * 2 ^ a) e ∙ suc-mul (k / 2 ^ a / 2 * 2) (2 ^ a) in
     (omega arith, omega arith)
+
+pub less-lt : (k a : ℕ) → bitOf k a ≡ true → k - 2 ^ a < k
+less-lt k a h = omega (arith, less-bit k a h .0, pow-pos a)
 
 -- The word less bit a, seen from bit d.
 module _ (k a : ℕ) (h : bitOf k a ≡ true) where

@@ -1,9 +1,9 @@
 -- `store::find` meets its contract. The loop's invariant: what a search from here says is what the whole search says. The measure is what is left of
 -- the depth. Each way that a look can go has its law in LookLaws. Assumes nothing.
 use Prim.Native.Nat.{ℕ, _+_, _-_, _≤_, _<_}
-use mathlib.Core.Bool.{Bool, true, false}
+use mathlib.Core.Bool.{Bool, false}
 use mathlib.Core.List.{List}
-use mathlib.Core.Path.{_≡_, refl, sym, ap, _∙_}
+use mathlib.Core.Path.{_≡_, sym, ap, _∙_}
 use native.Mathlib.Nat.{sub-zero}
 use native.Mathlib.Omega.{arith}
 use denote.Ref.{now}
@@ -12,7 +12,7 @@ use lib.ListN.{getD}
 use borrow.Author.Needs.{needs}
 use Rattle.words.specs.Words.{bitOf}
 use Rattle.store.specs.Store.{Store, storeIn, linkOf, walkIn, searchOf}
-use Rattle.store.specs.declared.Looked.the-variants.{Found, Absent, Damaged}
+use Rattle.store.specs.declared.Looked.the-variants.{Absent}
 use Rattle.store.proofs.LookLaws.{walk-hit, walk-last, walk-absent, walk-past, walk-on}
 use Rattle.store.proofs.find.Statement.{statement}
 use Rattle.store.proofs.find.Tie as tie

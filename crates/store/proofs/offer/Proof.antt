@@ -1,13 +1,11 @@
--- `store::offer` meets its contract, case by case of what the search said; the place that it names is a record (`placed`). Assumes nothing.
-use Prim.Native.Nat.{_<_}
+-- `store::offer` meets its contract, case by case of what the search said; the place that it names is a record (`absent-place`). Assumes nothing.
 use mathlib.Core.Path.{_≡_, refl, sym, _∙_}
-use native.Mathlib.Omega.{arith}
 use denote.Ref.{now}
 use borrow.Author.Needs.{needs}
 use borrow.Author.Tests.{lt-ltb, le-ltb}
-use Rattle.store.specs.Store.{Store, storeIn, roomIn, searchOf, answerOf, storeAfter}
+use Rattle.store.specs.Store.{Store, storeIn, searchOf, answerOf, storeAfter}
 use Rattle.store.specs.declared.Looked.the-variants.{Absent}
-use Rattle.store.proofs.StoreLaws.{placed}
+use Rattle.store.proofs.StoreLaws.{absent-place}
 use Rattle.store.proofs.offer.Statement.{statement}
 use Rattle.store.proofs.offer.Tie as tie
 
@@ -29,7 +27,7 @@ add-requires c κs =
     let k = t .before .before .before .before .before in
     let z = entry k in
     let h = rw (t .before .room .ensures) at (t .if1 .taken) in
-    (h, placed (store z) (z .args .sought) (z .args .deepest) (z .pre .0) (absent k))
+    (h, absent-place (store z) (z .args .sought) (z .args .deepest) (z .pre .0) (absent k))
 
 returns : tie.Need-returns
 unfolding answerOf storeAfter
