@@ -11,11 +11,7 @@ use lib.Dec.{ltb, leb, eqb}
 use borrow.Author.Tests.{lt-ltb, lt-leb, le-leb, eq-eqb}
 use Rattle.numbers.specs.declared.Reading.{Reading}
 use Rattle.numbers.specs.declared.Reading.the-variants.{Number, NumberFault}
-<<<<<<< HEAD
-use Rattle.numbers.specs.Numbers.{decodeIn}
-=======
 use Rattle.numbers.specs.Numbers.{mostBytes, decodeIn, decode}
->>>>>>> image-wip
 
 pub decode-none : (f w v : ℕ) (s : List ℕ) (i : ℕ) → f ≤ 0 → decodeIn f w v s i ≡ NumberFault 2
 decode-none zero w v s i p = refl
