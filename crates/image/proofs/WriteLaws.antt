@@ -14,7 +14,7 @@ use borrow.Author.Tests.{lt-ltb, le-ltb, le-leb, lt-leb}
 use Rattle.laws.specs.Lists.{part, over}
 use Rattle.laws.proofs.ListLaws.{part-none, part-more, part-append, length-over, over-append}
 use Rattle.laws.proofs.TestLaws.{which, clash}
-use Rattle.numbers.specs.Numbers.{encodeIn, encode}
+use Rattle.numbers.specs.Numbers.{mostBytes, encodeIn, encode}
 use Rattle.tables.specs.declared.Catalogue.{Catalogue}
 use Rattle.tables.specs.Sizes.{mostTables, mostRows, mostCells}
 use Rattle.tables.specs.Catalogues.{schemeOf, countOf, firstCell}
@@ -114,11 +114,11 @@ few-in (suc f) x =
     ]
 
 -- "nine bytes at most"
-pub encode-few : (x : ℕ) → length (encode x) ≤ 9
+pub encode-few : (x : ℕ) → length (encode x) ≤ mostBytes
 unfolding encode
-encode-few x = few-in 9 x
+encode-few x = few-in mostBytes x
 
-encodes-few : (k : ℕ) (l : List ℕ) → length (encodes (take k l)) ≤ 9 * k
+encodes-few : (k : ℕ) (l : List ℕ) → length (encodes (take k l)) ≤ mostBytes * k
 unfolding encodes
 encodes-few zero l = omega arith
 encodes-few (suc k) [] = omega arith
@@ -136,7 +136,7 @@ module _ (cells : List ℕ) where
   pub run-length : (a k : ℕ) → 0 < k → a < length cells → length (encodes (part a k cells)) ≡ length (encode (getD cells a 0)) + length (encodes (part (a + 1) (k - 1) cells))
   run-length a k z h = ap length (run-more a k z h) ∙ length-append (encode (getD cells a 0)) (encodes (part (a + 1) (k - 1) cells))
 
-  pub run-few : (a k : ℕ) → length (encodes (part a k cells)) ≤ 9 * k
+  pub run-few : (a k : ℕ) → length (encodes (part a k cells)) ≤ mostBytes * k
   run-few a k = encodes-few k _
 
 -- ---- bytes in their place
@@ -149,8 +149,12 @@ module _ {bs lent after : List ℕ} {a n : ℕ} (h : a + length bs ≤ length le
   pub placed-rest : (cs : List ℕ) → over a (bs ++ cs) lent ≡ over n cs after
   placed-rest cs = sym (rw (p .bytes) (over-append a n bs cs lent (omega arith) (p .next)))
 
-  pub placed-append : {cs end : List ℕ} {k : ℕ} → Placed cs n after k end → Placed (bs ++ cs) a lent k end
+  placed-append : {cs end : List ℕ} {k : ℕ} → Placed cs n after k end → Placed (bs ++ cs) a lent k end
   placed-append {cs} q = record { next = omega (arith, p .next, q .next, length-append bs cs); bytes = q .bytes ∙ sym (placed-rest cs) }
+
+-- Three parts, each placed behind the one before, are one.
+pub placed-three : {x y z l₀ l₁ l₂ l₃ : List ℕ} {a b d e : ℕ} → a + length x + length y ≤ length l₀ → Placed x a l₀ b l₁ → Placed y b l₁ d l₂ → Placed z d l₂ e l₃ → Placed (x ++ (y ++ z)) a l₀ e l₃
+placed-three h p q r = placed-append (omega arith) p (placed-append (omega (arith, p .next, placed-length (omega arith) p)) q r)
 
 -- ---- table by table
 
@@ -201,7 +205,7 @@ module _ (cat : Catalogue) (cells : List ℕ) where
       ∙ omega (arith, head-three cat)
 
   -- A number takes at most nine bytes, a table two numbers beside its cells.
-  tables-few : (k t : ℕ) → length (tablesImage k cat cells t) + 9 * firstCell cat t ≤ 18 * k + 9 * firstCell cat (t + k)
+  tables-few : (k t : ℕ) → length (tablesImage k cat cells t) + mostBytes * firstCell cat t ≤ mostBytes * (2 * k + firstCell cat (t + k))
   tables-few zero t =
       let e : t + 0 ≡ t = omega arith in
       rw e (omega (arith, ap length (image-none 0 t (omega arith))))
@@ -241,7 +245,7 @@ module _ (cat : Catalogue) (cells : List ℕ) where
       })
 
   -- The image is short, so no sum of its parts wraps.
-  pub image-few : writeFault cat cells ≡ 0 → length (imageOf cat cells) ≤ 9 * (3 + 2 * mostTables + mostCells)
+  pub image-few : writeFault cat cells ≡ 0 → length (imageOf cat cells) ≤ mostBytes * (3 + 2 * mostTables + mostCells)
   unfolding firstCell
   image-few e =
       let L = fault-accepted cat cells e .lawful in

@@ -4,6 +4,7 @@ use native.Mathlib.Omega.{arith}
 use Prim.Native.Nat.{_+_, _-_, _*_, _≤_}
 use mathlib.Core.Path.{_≡_, refl, ap}
 use lib.ListN.{length}
+use Rattle.numbers.specs.Numbers.{mostBytes}
 use Rattle.tables.specs.Sizes.{mostTables, mostCells}
 use Rattle.tables.specs.Catalogues.{firstCell}
 use Rattle.image.specs.Write.{tablesImage, imageOf}
@@ -34,7 +35,7 @@ here c =
 -- and the whole is short.
 short : (c : tie.After-width Inv-loop μ-loop)
     → (let a = c .before .before .before .before .before .before .before .before .before .args in
-    length (imageOf (a .t1) (a .cells .now)) ≤ 9 * (3 + 2 * mostTables + mostCells))
+    length (imageOf (a .t1) (a .cells .now)) ≤ mostBytes * (3 + 2 * mostTables + mostCells))
 short c = image-few _ _ (c .before .before .before .before .before .before .before .before .before .pre)
 
 size-requires : tie.Need-size-requires Inv-loop μ-loop

@@ -1,9 +1,10 @@
 -- `image::checker::rises` meets its contract. Invariant: all codes passed are equal, so the rows that are left decide. Assumes nothing.
 use borrow.Author.Needs.{needs}
 use native.Mathlib.Omega.{arith}
-use Prim.Native.Nat.{_+_, _≤_}
+use Prim.Native.Nat.{ℕ, _+_, _-_, _≤_, _<_}
 use mathlib.Core.Path.{_≡_, refl, sym, _∙_}
-use lib.ListN.{length}
+use mathlib.Core.List.{List, _∷_}
+use lib.ListN.{length, getD}
 use Rattle.laws.specs.Lists.{part}
 use Rattle.laws.proofs.ListLaws.{part-none, part-more}
 use Rattle.tables.specs.Rows.{below}
@@ -19,6 +20,11 @@ Inv-loop cells before at width i₀ j₀ left₀ i j left =
 
 abbrev μ-loop : tie.MeasureT-loop
 μ-loop cells before at width i₀ j₀ left₀ i j left = left
+
+-- Two rows that are not at their end, by their first codes.
+heads : (cells : List ℕ) (i j k : ℕ) → 0 < k → i < length cells → j < length cells
+    → below (part i k cells) (part j k cells) ≡ below (getD cells i 0 ∷ part (i + 1) (k - 1) cells) (getD cells j 0 ∷ part (j + 1) (k - 1) cells)
+heads cells i j k z h l = rw (part-more i k cells z h, part-more j k cells z l)
 
 loop-holds : tie.Need-loop-holds Inv-loop μ-loop
 loop-holds c = (omega arith, omega arith, refl)
@@ -38,14 +44,12 @@ shared-slice-read-y c = search needs
 returns : tie.Need-returns Inv-loop μ-loop
 returns c =
     let l = c .before .before .before .before .loop in
-    let cells = c .before .before .before .before .before .args .cells .now in
-    sym (l .inv .2 ∙ rw (part-more (l .i) (l .left) cells (omega arith) (omega arith), part-more (l .j) (l .left) cells (omega arith) (omega arith)) (below-lt _ _ _ _ (c .if1 .taken)))
+    sym (l .inv .2 ∙ heads _ (l .i) (l .j) (l .left) (omega arith) (omega arith) (omega arith) ∙ below-lt _ _ _ _ (c .if1 .taken))
 
 returns-2 : tie.Need-returns-2 Inv-loop μ-loop
 returns-2 c =
     let l = c .before .before .before .before .before .loop in
-    let cells = c .before .before .before .before .before .before .args .cells .now in
-    sym (l .inv .2 ∙ rw (part-more (l .i) (l .left) cells (omega arith) (omega arith), part-more (l .j) (l .left) cells (omega arith) (omega arith)) (below-gt _ _ _ _ (c .if2 .taken)))
+    sym (l .inv .2 ∙ heads _ (l .i) (l .j) (l .left) (omega arith) (omega arith) (omega arith) ∙ below-gt _ _ _ _ (c .if2 .taken))
 
 add-i : tie.Need-add-i Inv-loop μ-loop
 add-i c = search needs
@@ -62,8 +66,7 @@ loop-less c = search needs
 loop-again : tie.Need-loop-again Inv-loop μ-loop
 loop-again c =
     let l = c .before .before .before .before .before .loop in
-    let cells = c .before .before .before .before .before .before .args .cells .now in
-    (omega arith, omega arith, l .inv .2 ∙ rw (part-more (l .i) (l .left) cells (omega arith) (omega arith), part-more (l .j) (l .left) cells (omega arith) (omega arith)) (below-eq _ _ _ _ (omega arith) (omega arith)))
+    (omega arith, omega arith, l .inv .2 ∙ heads _ (l .i) (l .j) (l .left) (omega arith) (omega arith) (omega arith) ∙ below-eq _ _ _ _ (omega arith) (omega arith))
 
 returns-3 : tie.Need-returns-3 Inv-loop μ-loop
 returns-3 c =

@@ -3,6 +3,7 @@ use borrow.Author.Needs.{needs}
 use native.Mathlib.Omega.{arith}
 use Prim.Native.Nat.{ℕ, _+_, _-_, _≤_}
 use mathlib.Core.Path.{_≡_, refl, sym, ap, _∙_}
+use mathlib.Core.List.{List}
 use lib.ListN.{length}
 use Rattle.laws.specs.Lists.{put, over}
 use Rattle.laws.proofs.ListLaws.{put-nil}
@@ -11,7 +12,6 @@ use Rattle.tables.specs.Catalogues.{firstCell}
 use Rattle.image.specs.Write.{tablesImage, imageOf}
 use Rattle.image.proofs.AcceptLaws.{fault-accepted}
 use Rattle.image.proofs.WriteLaws.{tableBytes, headBytes, head-three, Table, table-good, head-length, image-none, image-head, placed-length, placed-rest}
-use mathlib.Core.List.{List}
 use Rattle.image.proofs.putter.put_image.Statement.{statement}
 use Rattle.image.proofs.putter.put_image.Tie as tie
 
@@ -27,13 +27,13 @@ Inv-loop cells out₀ cat n at₀ used₀ t₀ out at used t =
 abbrev μ-loop : tie.MeasureT-loop
 μ-loop cells out₀ cat n at₀ used₀ t₀ out at used t = n - t
 
--- There is room for the head,
+-- There is room for the head.
 room : (c : tie.After-put-head Inv-loop μ-loop) → 0 + length (headBytes (c .before .before .before .before .args .t1)) ≤ length (c .before .before .before .before .args .out .now)
 room c =
     let p = c .before .before .before .before in
     omega (arith, head-three (p .args .t1), head-length (p .args .t1) (p .args .cells .now), p .pre .1)
 
--- for the table at hand, which has what it needs,
+-- What the table at hand has,
 here : (c : tie.After-width Inv-loop μ-loop)
     → (let a = c .before .before .before .before .before .before .before .before .before .before .before .args in
     let l = c .before .before .before .before .loop in
@@ -42,7 +42,7 @@ here c =
     let l = c .before .before .before .before .loop in
     table-good _ _ (c .before .before .before .before .before .before .before .before .before .before .before .pre .0) (l .t) (l .used) (c .width .result) (omega (arith, c .before .before .before .loop-test .taken)) (l .inv .1) (c .width .ensures)
 
--- and for those behind it.
+-- and there is room for it.
 fits : (c : tie.After-width Inv-loop μ-loop)
     → (let a = c .before .before .before .before .before .before .before .before .before .before .before .args in
     let l = c .before .before .before .before .loop in

@@ -1,7 +1,7 @@
 -- `image::putter::put_table` meets its contract: three parts, each placed behind the one before, are one. Assumes nothing.
 use native.Mathlib.Omega.{arith}
 use borrow.Author.Needs.{needs}
-use Rattle.image.proofs.WriteLaws.{placed-length, placed-append}
+use Rattle.image.proofs.WriteLaws.{placed-three}
 use Rattle.image.proofs.putter.put_table.Statement.{statement}
 use Rattle.image.proofs.putter.put_table.Tie as tie
 
@@ -19,11 +19,8 @@ same-length c = search needs
 
 returns : tie.Need-returns
 returns c =
-    let s = c .before .before .before .before .before .before .before .before .before .before .put-number .ensures in
-    let r = c .before .before .before .before .before .before .put-number2 .ensures in
     let p = c .before .before .before .before .before .before .before .before .before .before .before .before .before .before .pre in
-    let k = placed-length (omega arith) s in
-    placed-append (omega arith) s (placed-append (omega (arith, s .next)) r (c .before .before .put-run .ensures))
+    placed-three (omega arith) (c .before .before .before .before .before .before .before .before .before .before .put-number .ensures) (c .before .before .before .before .before .before .put-number2 .ensures) (c .before .before .put-run .ensures)
 
 pub put-table-spec : {M : Type 1} → statement M
 put-table-spec =
