@@ -1,35 +1,28 @@
 // The library's calls for C and Rust: numbers and slices alone, a catalogue as 18 words.
 ghost use mathlib.Core.Path.{_≡_};
-ghost use Prim.Native.Nat.{_≤_, min};
-ghost use lib.ListN.{length};
-ghost use Rattle.laws.specs.Lists.{put, part, tab};
+ghost use Prim.Native.Nat.{_+_, _≤_, _<_};
+ghost use lib.ListN.{length, getD};
+ghost use Rattle.laws.specs.Lists.{put};
 ghost use Rattle.abi.specs.Words.{catalogueWords, wordsOf, countIn, catalogueIn};
 ghost use Rattle.abi.specs.Calls.{LoadCall, WriteCall};
 use image::Written;
 use tables::Catalogue;
 
-// Copies eight schemes into the front of the lent words.
-fn put_schemes(schemes: [u64; 8], words: &mut [u64])
-    requires { ⌜ 8 ≤ length (now words) ⌝ }
-    ensures { λ _. ⌜ now (words .exit) ≡ put schemes (now (words .entry)) ⌝ }
+// The word of a catalogue at a place.
+fn word_of(cat: Catalogue, i: usize) -> u64
+    requires { ⌜ i < catalogueWords ⌝ }
+    ensures { λ r. ⌜ r ≡ getD (wordsOf cat) i 0 ⌝ }
 {
-    let mut t: usize = 0;
-    while t < 8 {
-        words[t] = schemes[t];
-        t = t + 1;
+    if i < 1 {
+        return cat.m as u64;
     }
-}
-
-// Copies eight row counts into the front of the lent words.
-fn put_rows(rows: [u16; 8], words: &mut [u64])
-    requires { ⌜ 8 ≤ length (now words) ⌝ }
-    ensures { λ _. ⌜ now (words .exit) ≡ put rows (now (words .entry)) ⌝ }
-{
-    let mut t: usize = 0;
-    while t < 8 {
-        words[t] = rows[t] as u64;
-        t = t + 1;
+    if i < 2 {
+        return cat.n as u64;
     }
+    if i < 10 {
+        return cat.schemes[i - 2];
+    }
+    cat.rows[i - 10] as u64
 }
 
 // Copies a catalogue into the front of the lent words.
@@ -37,29 +30,15 @@ fn put_catalogue(cat: Catalogue, words: &mut [u64])
     requires { ⌜ catalogueWords ≤ length (now words) ⌝ }
     ensures { λ _. ⌜ now (words .exit) ≡ put (wordsOf cat) (now (words .entry)) ⌝ }
 {
-    words[0] = cat.m as u64;
-    words[1] = cat.n as u64;
-    let schemes = cat.schemes;
-    let rows = cat.rows;
-    put_schemes(schemes, &mut words[2..]);
-    put_rows(rows, &mut words[10..]);
-}
-
-// The eight schemes among the words of a catalogue.
-fn schemes_in(words: &[u64]) -> [u64; 8]
-    requires { ⌜ catalogueWords ≤ length (now words) ⌝ }
-    ensures { λ r. ⌜ r ≡ part 2 8 (now (words .entry)) ⌝ }
-{
-    let mut schemes = [0u64; 8];
-    let mut t: usize = 0;
-    while t < 8 {
-        schemes[t] = words[2 + t];
-        t = t + 1;
+    let mut i: usize = 0;
+    while i < 18 {
+        words[i] = word_of(cat, i);
+        i = i + 1;
     }
-    schemes
 }
 
-// A word as a row count.
+// The row count of table t among the words of a catalogue.
+// A word that no count of 16 bits holds becomes the highest, which is refused as the word would be.
 fn count_in(words: &[u64], t: usize) -> u16
     requires { ⌜ 10 + t < length (now words) ⌝ }
     ensures { λ r. ⌜ r ≡ countIn (now (words .entry)) t ⌝ }
@@ -71,27 +50,19 @@ fn count_in(words: &[u64], t: usize) -> u16
     count as u16
 }
 
-// The eight row counts among the words of a catalogue.
-fn rows_in(words: &[u64]) -> [u16; 8]
-    requires { ⌜ catalogueWords ≤ length (now words) ⌝ }
-    ensures { λ r. ⌜ r ≡ tab 8 (countIn (now (words .entry))) ⌝ }
-{
-    let mut rows = [0u16; 8];
-    let mut t: usize = 0;
-    while t < 8 {
-        rows[t] = count_in(words, t);
-        t = t + 1;
-    }
-    rows
-}
-
 // The catalogue of 18 words.
 fn catalogue_in(words: &[u64]) -> Catalogue
     requires { ⌜ catalogueWords ≤ length (now words) ⌝ }
     ensures { λ r. ⌜ r ≡ catalogueIn (now (words .entry)) ⌝ }
 {
-    let schemes = schemes_in(words);
-    let rows = rows_in(words);
+    let mut schemes = [0u64; 8];
+    let mut rows = [0u16; 8];
+    let mut t: usize = 0;
+    while t < 8 {
+        schemes[t] = words[2 + t];
+        rows[t] = count_in(words, t);
+        t = t + 1;
+    }
     Catalogue {
         m: words[0] as usize,
         n: words[1] as usize,
