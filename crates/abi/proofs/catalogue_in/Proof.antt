@@ -1,19 +1,16 @@
+-- `abi::catalogue_in` meets its contract. Invariant: the fronts of both arrays are the schemes and the row counts so far. Assumes nothing.
 use borrow.Author.Needs.{needs}
 use native.Mathlib.Omega.{arith}
-use Prim.Native.Nat.{ℕ, _+_, _-_, _*_, _^_, _≤_, _<_}
-use mathlib.Core.Path.{_≡_, refl, sym, ap, _∙_}
-use lib.ListN.{length, getD}
-use lib.ListN.{take, length-set}
+use Prim.Native.Nat.{_-_, _≤_}
+use mathlib.Core.Path.{_≡_, refl, sym, _∙_}
+use lib.ListN.{length, take, length-set}
 use lib.Seq.{take-all}
-use Rattle.laws.specs.Lists.{part, tab}
-use Rattle.abi.specs.Words.{countIn, catalogueIn}
-use Rattle.abi.proofs.WordLaws.{part-next, tab-next, take-next}
 use denote.Ref.{now}
+use Rattle.laws.specs.Lists.{part, tab}
+use Rattle.laws.proofs.ListLaws.{take-next, tab-next, part-next}
+use Rattle.abi.specs.Words.{countIn, catalogueIn}
 use Rattle.abi.proofs.catalogue_in.Statement.{statement}
 use Rattle.abi.proofs.catalogue_in.Tie as tie
-use Rattle.abi.proofs.catalogue_in.Reads as reads
-use Rattle.abi.proofs.catalogue_in.Lts as lts
-use Rattle.abi.proofs.count_in.Reads as count-in-reads
 
 abbrev Inv-loop : tie.InvT-loop
 Inv-loop words schemes₀ rows₀ t₀ schemes rows t =
@@ -26,52 +23,40 @@ Inv-loop words schemes₀ rows₀ t₀ schemes rows t =
 abbrev μ-loop : tie.MeasureT-loop
 μ-loop words schemes₀ rows₀ t₀ schemes rows t = 8 - t
 
--- src/lib.rt:61:5
 loop-holds : tie.Need-loop-holds Inv-loop μ-loop
 unfolding tab
 loop-holds c = (omega arith, refl, refl, refl, refl)
 
--- src/lib.rt:62:28
 add-schemes : tie.Need-add-schemes Inv-loop μ-loop
 add-schemes c = search needs
 
--- src/lib.rt:62:22
 mul-schemes : tie.Need-mul-schemes Inv-loop μ-loop
 mul-schemes c = search needs
 
--- src/lib.rt:62:22
 shared-slice-read-schemes : tie.Need-shared-slice-read-schemes Inv-loop μ-loop
 shared-slice-read-schemes c = search needs
 
--- src/lib.rt:62:9
 mul-schemes-2 : tie.Need-mul-schemes-2 Inv-loop μ-loop
 mul-schemes-2 c = search needs
 
--- src/lib.rt:62:9
 array-write-schemes : tie.Need-array-write-schemes Inv-loop μ-loop
 array-write-schemes c = search needs
 
--- src/lib.rt:63:19
 count-in-requires : tie.Need-count-in-requires Inv-loop μ-loop
 count-in-requires c κs = search needs
 
--- src/lib.rt:63:9
 mul-rows : tie.Need-mul-rows Inv-loop μ-loop
 mul-rows c = search needs
 
--- src/lib.rt:63:9
 array-write-rows : tie.Need-array-write-rows Inv-loop μ-loop
 array-write-rows c = search needs
 
--- src/lib.rt:64:13
 add-t : tie.Need-add-t Inv-loop μ-loop
 add-t c = search needs
 
--- src/lib.rt:61:5
 loop-less : tie.Need-loop-less Inv-loop μ-loop
 loop-less c = search needs
 
--- src/lib.rt:61:5
 loop-again : tie.Need-loop-again Inv-loop μ-loop
 loop-again c =
     let l = c .before .before .before .loop in
@@ -79,19 +64,16 @@ loop-again c =
       omega arith,
       simp length-set (l .inv .1),
       simp length-set (l .inv .2),
-      take-next (l .t) _ (l .schemes) (part 2 (l .t) ws) (omega arith) (l .inv .3) ∙ sym (part-next 2 (l .t) ws (omega arith)),
-      take-next (l .t) _ (l .rows) (tab (l .t) (countIn ws)) (omega arith) (l .inv .4) ∙ rw (c .count-in .ensures) (sym (tab-next (l .t) (countIn ws))),
+      take-next (l .schemes) (part 2 (l .t) ws) (l .t) _ (omega arith) (l .inv .3) ∙ sym (part-next 2 (l .t) ws (omega arith)),
+      take-next (l .rows) (tab (l .t) (countIn ws)) (l .t) _ (omega arith) (l .inv .4) ∙ rw (c .count-in .ensures) (sym (tab-next (l .t) (countIn ws))),
     )
 
--- src/lib.rt:67:12
 shared-slice-read-t17 : tie.Need-shared-slice-read-t17 Inv-loop μ-loop
 shared-slice-read-t17 c = search needs
 
--- src/lib.rt:68:12
 shared-slice-read-t20 : tie.Need-shared-slice-read-t20 Inv-loop μ-loop
 shared-slice-read-t20 c = search needs
 
--- src/lib.rt:54:1
 returns : tie.Need-returns Inv-loop μ-loop
 unfolding catalogueIn
 returns c =

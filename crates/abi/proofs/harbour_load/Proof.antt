@@ -1,43 +1,36 @@
-use native.Mathlib.Omega.{arith}
-use Prim.Native.Nat.{ℕ, _+_, _-_, _*_, _^_, _≤_, _<_}
-use mathlib.Core.Path.{_≡_, refl, sym, ap, _∙_}
-use lib.ListN.{length, getD}
+-- `abi::harbour_load` meets its contract: each way is its law's, and no refusal of a load is placed far from the start. Assumes nothing.
+use lib.ListN.{length}
 use borrow.Author.Needs.{needs}
+use denote.Ref.{now}
+use Rattle.image.proofs.PlaceLaws.{scan-near}
+use Rattle.abi.proofs.CallLaws.{load-short, load-done}
 use Rattle.abi.proofs.harbour_load.Statement.{statement}
 use Rattle.abi.proofs.harbour_load.Tie as tie
-use Rattle.abi.proofs.harbour_load.Reads as reads
-use Rattle.abi.proofs.harbour_load.Lts as lts
-use Rattle.abi.proofs.put_catalogue.Reads as put-catalogue-reads
-use Rattle.door.proofs.number_of.Reads as number-of-reads
-use Rattle.image.proofs.load.Reads as load-reads
 
--- src/lib.rt:81:9
 returns : tie.Need-returns
-returns c = search needs
+returns c = load-short _ _ _ (c .if1 .taken)
 
--- src/lib.rt:83:9
 load-requires : tie.Need-load-requires
 load-requires c κs = search needs
 
--- src/lib.rt:86:5
 put-catalogue-requires : tie.Need-put-catalogue-requires
 put-catalogue-requires c κs = search needs
 
--- src/lib.rt:87:5
 number-of-requires : tie.Need-number-of-requires
-number-of-requires c κs = search needs
+number-of-requires c κs =
+    let a = c .before .before .before .before .before .before .before .before .before .before .before .before .before .args in
+    rw (c .before .before .before .before .before .before .before .load .ensures .answer) (scan-near (now (a .image)) (length (now (a .cells))))
 
--- src/lib.rt:76:1
 same-length : tie.Need-same-length
 same-length c = search needs
 
--- src/lib.rt:76:1
 same-length-2 : tie.Need-same-length-2
 same-length-2 c = search needs
 
--- src/lib.rt:76:1
 returns-2 : tie.Need-returns-2
-returns-2 c = search needs
+returns-2 c =
+    let b = c .before .before .before .before .before .before .before .before in
+    load-done _ _ _ (b .load .result) _ _ _ (b .before .before .if1 .left) (b .load .ensures) (c .number-of .ensures) (c .before .before .before .put-catalogue .ensures)
 
 pub harbour-load-spec : {M : Type 1} → statement M
 harbour-load-spec =

@@ -1,54 +1,50 @@
+-- `abi::harbour_write` meets its contract: each way is its law's, and no image is so long that its length x 32 wraps. Assumes nothing.
 use native.Mathlib.Omega.{arith}
-use Prim.Native.Nat.{ℕ, _+_, _-_, _*_, _^_, _≤_, _<_}
-use mathlib.Core.Path.{_≡_, refl, sym, ap, _∙_}
-use lib.ListN.{length, getD}
+use Prim.Native.Nat.{ℕ}
+use mathlib.Core.Path.{_≡_, sym, ap, _∙_}
+use denote.Ref.{now}
 use borrow.Author.Needs.{needs}
+use Rattle.image.proofs.WriteLaws.{written-few}
+use Rattle.abi.specs.Calls.{writtenNumber, WriteCall}
+use Rattle.abi.proofs.CallLaws.{write-short, write-done}
 use Rattle.abi.proofs.harbour_write.Statement.{statement}
 use Rattle.abi.proofs.harbour_write.Tie as tie
-use Rattle.abi.proofs.harbour_write.Reads as reads
-use Rattle.abi.proofs.harbour_write.Lts as lts
-use Rattle.abi.proofs.catalogue_in.Reads as catalogue-in-reads
-use Rattle.image.proofs.write.Reads as write-reads
 
--- src/lib.rt:97:9
+-- Where the call of the writer has answered, only its number is left to show.
+answered : (c : tie.After-write) (k : ℕ) → k ≡ writtenNumber (c .write .result) →
+    let a = c .before .before .before .before .before .before .before .args in
+    WriteCall (now (a .catalogue)) (now (a .cells)) (now (a .out)) k (c .write .last .1 .1 .0)
+answered c k e = write-done _ _ _ _ _ k _ (c .before .before .before .if1 .left) (c .before .before .catalogue-in .ensures) (c .write .ensures) e
+
 returns : tie.Need-returns
-returns c = search needs
+returns c = write-short _ _ _ (c .if1 .taken)
 
--- src/lib.rt:99:9
 catalogue-in-requires : tie.Need-catalogue-in-requires
 catalogue-in-requires c κs = search needs
 
--- src/lib.rt:100:11
 write-requires : tie.Need-write-requires
 write-requires c κs = search needs
 
--- src/lib.rt:101:25
 enum-known-n : tie.Need-enum-known-n
 enum-known-n c = search needs
 
--- src/lib.rt:101:31
 mul-result : tie.Need-mul-result
-mul-result c = search needs
+mul-result c = omega (arith, written-few _ _ _ _ (sym (c .before .before .before .before .before .write .ensures .answer) ∙ c .before .n .given .1))
 
--- src/lib.rt:102:26
 enum-known-k : tie.Need-enum-known-k
 enum-known-k c = search needs
 
--- src/lib.rt:92:1
 same-length : tie.Need-same-length
 same-length c = search needs
 
--- src/lib.rt:92:1
 returns-2 : tie.Need-returns-2
-returns-2 c = search needs
+returns-2 c = answered (c .before .before .before .before .before) _ (sym (ap writtenNumber (c .before .n .given .1)))
 
--- src/lib.rt:92:1
 same-length-2 : tie.Need-same-length-2
 same-length-2 c = search needs
 
--- src/lib.rt:92:1
 returns-3 : tie.Need-returns-3
-returns-3 c = search needs
+returns-3 c = answered (c .before .before .before .before .before) _ (sym (ap writtenNumber (c .before .k .given .1)))
 
 pub harbour-write-spec : {M : Type 1} → statement M
 harbour-write-spec =

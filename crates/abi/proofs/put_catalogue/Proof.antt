@@ -1,19 +1,15 @@
+-- `abi::put_catalogue` meets its contract. Invariant: what is left to put from here on makes the whole answer. Assumes nothing.
 use borrow.Author.Needs.{needs}
 use native.Mathlib.Omega.{arith}
-use Prim.Native.Nat.{ℕ, _+_, _-_, _*_, _^_, _≤_, _<_}
-use mathlib.Core.Path.{_≡_, refl, sym, ap, _∙_}
-use lib.ListN.{length, getD}
-use lib.ListN.{drop, length-set}
+use Prim.Native.Nat.{_-_, _≤_}
+use mathlib.Core.Path.{_≡_, refl, sym, _∙_}
+use lib.ListN.{length, drop, length-set, drop-of-length-le}
 use Rattle.laws.specs.Lists.{put, over}
-use Rattle.laws.proofs.ListLaws.{put-nil}
+use Rattle.laws.proofs.ListLaws.{put-nil, put-next}
 use Rattle.abi.specs.Words.{catalogueWords, wordsOf}
-use Rattle.abi.proofs.WordLaws.{words-length, put-next}
-use lib.ListN.{drop-of-length-le}
+use Rattle.abi.proofs.WordLaws.{words-length}
 use Rattle.abi.proofs.put_catalogue.Statement.{statement}
 use Rattle.abi.proofs.put_catalogue.Tie as tie
-use Rattle.abi.proofs.put_catalogue.Reads as reads
-use Rattle.abi.proofs.put_catalogue.Lts as lts
-use Rattle.abi.proofs.word_of.Reads as word-of-reads
 
 abbrev Inv-loop : tie.InvT-loop
 Inv-loop cat words₀ i₀ words i =
@@ -24,53 +20,45 @@ Inv-loop cat words₀ i₀ words i =
 abbrev μ-loop : tie.MeasureT-loop
 μ-loop cat words₀ i₀ words i = catalogueWords - i
 
--- src/lib.rt:34:5
+all-words : (c : tie.At-loop Inv-loop μ-loop) → length (wordsOf (c .before .before .args .cat)) ≡ catalogueWords
+all-words c =
+    let a = c .before .before .args in
+    let s : length (a .cat .schemes) ≡ 8 = search needs in
+    let r : length (a .cat .rows) ≡ 8 = search needs in
+    words-length (a .cat) s r
+
 loop-holds : tie.Need-loop-holds Inv-loop μ-loop
 loop-holds c = (omega arith, refl, refl)
 
--- src/lib.rt:35:20
 word-of-requires : tie.Need-word-of-requires Inv-loop μ-loop
 word-of-requires c κs = search needs
 
--- src/lib.rt:35:9
 mul-words : tie.Need-mul-words Inv-loop μ-loop
 mul-words c = search needs
 
--- src/lib.rt:35:9
 slice-write-words : tie.Need-slice-write-words Inv-loop μ-loop
 slice-write-words c = search needs
 
--- src/lib.rt:36:13
 add-i : tie.Need-add-i Inv-loop μ-loop
 add-i c = search needs
 
--- src/lib.rt:34:5
 loop-less : tie.Need-loop-less Inv-loop μ-loop
 loop-less c = search needs
 
--- src/lib.rt:34:5
 loop-again : tie.Need-loop-again Inv-loop μ-loop
 loop-again c =
     let l = c .before .before .loop in
-    let a = c .before .before .before .before .args in
-    let s : length (a .cat .schemes) ≡ 8 = search needs in
-    let r : length (a .cat .rows) ≡ 8 = search needs in
-    let w = words-length (a .cat) s r in
-    (omega arith, simp length-set (l .inv .1), l .inv .2 ∙ put-next (l .words) (wordsOf (a .cat)) (l .i) _ (omega arith) (omega arith) (c .word-of .ensures))
+    let w = all-words (c .before .before) in
+    (omega arith, simp length-set (l .inv .1), l .inv .2 ∙ put-next (l .words) (wordsOf (c .before .before .before .before .args .cat)) (l .i) _ (omega arith) (omega arith) (c .word-of .ensures))
 
--- src/lib.rt:29:1
 same-length : tie.Need-same-length Inv-loop μ-loop
 same-length c = search needs
 
--- src/lib.rt:29:1
 returns : tie.Need-returns Inv-loop μ-loop
 returns c =
     let l = c .before .loop in
-    let a = c .before .before .before .args in
-    let s : length (a .cat .schemes) ≡ 8 = search needs in
-    let r : length (a .cat .rows) ≡ 8 = search needs in
-    let w = words-length (a .cat) s r in
-    sym (l .inv .2 ∙ rw (drop-of-length-le (wordsOf (a .cat)) {i = l .i} (omega arith)) (put-nil (l .words) (l .i)))
+    let w = all-words (c .before) in
+    sym (l .inv .2 ∙ rw (drop-of-length-le (wordsOf (c .before .before .before .args .cat)) {i = l .i} (omega arith)) (put-nil (l .words) (l .i)))
 
 pub put-catalogue-spec : {M : Type 1} → statement M
 put-catalogue-spec =

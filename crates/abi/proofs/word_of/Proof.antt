@@ -1,55 +1,43 @@
+-- `abi::word_of` meets its contract: the schemes lie behind two words, and the row counts behind ten. Assumes nothing.
 use native.Mathlib.Omega.{arith}
-use Prim.Native.Nat.{ℕ, _+_, _-_, _*_, _^_, _≤_, _<_}
-use mathlib.Core.Path.{_≡_, refl, sym, ap, _∙_}
-use lib.ListN.{length, getD}
+use mathlib.Core.Path.{_≡_, sym}
+use lib.ListN.{length}
 use borrow.Author.Needs.{needs}
-use Rattle.abi.specs.Words.{wordsOf}
 use Rattle.abi.proofs.WordLaws.{words-scheme, words-count}
 use Rattle.abi.proofs.word_of.Statement.{statement}
 use Rattle.abi.proofs.word_of.Tie as tie
-use Rattle.abi.proofs.word_of.Reads as reads
-use Rattle.abi.proofs.word_of.Lts as lts
 
--- src/lib.rt:17:9
 returns : tie.Need-returns
 returns c =
     let e : c .before .args .i ≡ 0 = omega arith in
     rw e
 
--- src/lib.rt:20:9
 returns-2 : tie.Need-returns-2
 returns-2 c =
     let e : c .before .before .args .i ≡ 1 = omega arith in
     rw e
 
--- src/lib.rt:23:16
 mul-result : tie.Need-mul-result
 mul-result c = search needs
 
--- src/lib.rt:23:16
 element-copy-out-result : tie.Need-element-copy-out-result
 element-copy-out-result c = search needs
 
--- src/lib.rt:23:9
 returns-3 : tie.Need-returns-3
 returns-3 c =
     let a = c .before .before .before .before .args in
     let s : length (a .t1 .schemes) ≡ 8 = search needs in
     sym (words-scheme (a .t1) s (a .i) (omega arith) (omega arith))
 
--- src/lib.rt:25:5
 mul-result-2 : tie.Need-mul-result-2
 mul-result-2 c = search needs
 
--- src/lib.rt:25:5
 element-copy-out-result-2 : tie.Need-element-copy-out-result-2
 element-copy-out-result-2 c = search needs
 
--- src/lib.rt:25:5
 cast-result : tie.Need-cast-result
 cast-result c = search needs
 
--- src/lib.rt:12:1
 returns-4 : tie.Need-returns-4
 returns-4 c =
     let a = c .before .before .before .before .args in
