@@ -2,6 +2,7 @@
 ghost use mathlib.Core.Path.{_≡_};
 ghost use Prim.Native.Nat.{_+_, _≤_, _<_};
 ghost use lib.ListN.{length, getD};
+ghost use lib.Dec.{ltb};
 ghost use Rattle.laws.specs.Lists.{put};
 ghost use Rattle.abi.specs.Words.{catalogueWords, wordsOf, countIn, catalogueIn};
 ghost use Rattle.abi.specs.Calls.{LoadCall, WriteCall};
@@ -71,13 +72,20 @@ fn catalogue_in(words: &[u64]) -> Catalogue
     }
 }
 
+// Whether so many lent words are too few for a catalogue.
+fn too_few(words: usize) -> bool
+    ensures { λ r. ⌜ r ≡ ltb words catalogueWords ⌝ }
+{
+    words < 18
+}
+
 // Loads an image into the lent cells, and its catalogue into the lent words.
 // The answer is the door's number: 0 for good, else place x 32 + refusal.
 #[no_mangle]
 pub extern "C" fn harbour_load(image: &[u8], cells: &mut [u64], catalogue: &mut [u64]) -> u64
     ensures { λ r. ⌜ LoadCall (now (image .entry)) (now (cells .entry)) (now (catalogue .entry)) r (now (cells .exit)) (now (catalogue .exit)) ⌝ }
 {
-    if catalogue.len() < 18 {
+    if too_few(catalogue.len()) {
         return 31;
     }
     let r = image::load(image, cells);
@@ -93,7 +101,7 @@ pub extern "C" fn harbour_load(image: &[u8], cells: &mut [u64], catalogue: &mut 
 pub extern "C" fn harbour_write(catalogue: &[u64], cells: &[u64], out: &mut [u8]) -> u64
     ensures { λ r. ⌜ WriteCall (now (catalogue .entry)) (now (cells .entry)) (now (out .entry)) r (now (out .exit)) ⌝ }
 {
-    if catalogue.len() < 18 {
+    if too_few(catalogue.len()) {
         return 31;
     }
     let cat = catalogue_in(catalogue);

@@ -2,25 +2,34 @@
 use native.Mathlib.Omega.{arith}
 use Prim.Native.Nat.{ℕ}
 use mathlib.Core.Path.{_≡_, sym, ap, _∙_}
-use denote.Ref.{now}
 use borrow.Author.Needs.{needs}
+use denote.Ref.{now}
+use mathlib.Core.Bool.{false}
+use borrow.Author.Tests.{ltb-false}
 use Rattle.image.proofs.WriteLaws.{written-few}
-use Rattle.abi.specs.Calls.{writtenNumber, WriteCall}
+use Rattle.abi.specs.Words.{catalogueWords}
+use Rattle.abi.specs.Calls.{short, writtenNumber, WriteCall}
 use Rattle.abi.proofs.CallLaws.{write-short, write-done}
 use Rattle.abi.proofs.harbour_write.Statement.{statement}
 use Rattle.abi.proofs.harbour_write.Tie as tie
 
--- Where the call of the writer has answered, only its number is left to show.
+enough : (c : tie.Else1) → short (now (c .before .before .before .before .before .args .catalogue)) ≡ false
+enough c = sym (c .before .too-few .ensures) ∙ c .if1 .left
+
+-- Where the writer has answered, only the number is left to show.
 answered : (c : tie.After-write) (k : ℕ) → k ≡ writtenNumber (c .write .result) →
-    let a = c .before .before .before .before .before .before .before .args in
+    let a = c .before .before .before .before .before .before .before .before .args in
     WriteCall (now (a .catalogue)) (now (a .cells)) (now (a .out)) k (c .write .last .1 .1 .0)
-answered c k e = write-done _ _ _ _ _ k _ (c .before .before .before .if1 .left) (c .before .before .catalogue-in .ensures) (c .write .ensures) e
+answered c k e = write-done _ _ _ _ _ k _ (enough (c .before .before .before)) (c .before .before .catalogue-in .ensures) (c .write .ensures) e
+
+too-few-requires : tie.Need-too-few-requires
+too-few-requires c κs = search needs
 
 returns : tie.Need-returns
-returns c = write-short _ _ _ (c .if1 .taken)
+returns c = write-short _ _ _ (sym (c .before .too-few .ensures) ∙ c .if1 .taken)
 
 catalogue-in-requires : tie.Need-catalogue-in-requires
-catalogue-in-requires c κs = search needs
+catalogue-in-requires c κs = ltb-false _ catalogueWords (enough c)
 
 write-requires : tie.Need-write-requires
 write-requires c κs = search needs
@@ -50,6 +59,7 @@ pub harbour-write-spec : {M : Type 1} → statement M
 harbour-write-spec =
     tie.close
     (tie.spec
+    too-few-requires
     returns
     catalogue-in-requires
     write-requires
