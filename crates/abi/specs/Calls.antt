@@ -1,6 +1,6 @@
 -- What the calls from C promise: each is the library's own call, with the catalogue as 18 words. Where a lent slice has fewer words than its call
 -- needs, the answer is 31 and nothing changes. Assumes nothing.
-use Prim.Native.Nat.{ℕ, _*_, _+_}
+use Prim.Native.Nat.{ℕ, _*_}
 use mathlib.Core.Path.{_≡_}
 use mathlib.Core.Bool.{Bool, cond}
 use mathlib.Core.List.{List}

@@ -9,7 +9,8 @@ ghost use Rattle.abi.specs.Calls.{LoadCall, WriteCall};
 use image::Written;
 use tables::Catalogue;
 
-// The word of a catalogue at a place.
+// The word of a catalogue at a place: m, n, the eight schemes, the eight row counts.
+// One function says the order, so that the copy is a single loop.
 fn word_of(cat: Catalogue, i: usize) -> u64
     requires { ⌜ i < catalogueWords ⌝ }
     ensures { λ r. ⌜ r ≡ getD (wordsOf cat) i 0 ⌝ }
@@ -27,6 +28,7 @@ fn word_of(cat: Catalogue, i: usize) -> u64
 }
 
 // Copies a catalogue into the front of the lent words.
+// A caller may lend more; what lies behind the 18 words stays.
 fn put_catalogue(cat: Catalogue, words: &mut [u64])
     requires { ⌜ catalogueWords ≤ length (now words) ⌝ }
     ensures { λ _. ⌜ now (words .exit) ≡ put (wordsOf cat) (now (words .entry)) ⌝ }
@@ -51,7 +53,8 @@ fn count_in(words: &[u64], t: usize) -> u16
     count as u16
 }
 
-// The catalogue of 18 words.
+// The catalogue that the front of the lent words holds.
+// Nothing is judged here: the writer refuses what is out of range.
 fn catalogue_in(words: &[u64]) -> Catalogue
     requires { ⌜ catalogueWords ≤ length (now words) ⌝ }
     ensures { λ r. ⌜ r ≡ catalogueIn (now (words .entry)) ⌝ }
@@ -73,6 +76,7 @@ fn catalogue_in(words: &[u64]) -> Catalogue
 }
 
 // Whether so many lent words are too few for a catalogue.
+// Each call asks it first, so that a short slice changes nothing.
 fn too_few(words: usize) -> bool
     ensures { λ r. ⌜ r ≡ ltb words catalogueWords ⌝ }
 {
@@ -80,7 +84,7 @@ fn too_few(words: usize) -> bool
 }
 
 // Loads an image into the lent cells, and its catalogue into the lent words.
-// The answer is the door's number: 0 for good, else place x 32 + refusal.
+// The answer is the door's number (0 for good, else place x 32 + refusal), or 31 where the words are too few.
 #[no_mangle]
 pub extern "C" fn harbour_load(image: &[u8], cells: &mut [u64], catalogue: &mut [u64]) -> u64
     ensures { λ r. ⌜ LoadCall (now (image .entry)) (now (cells .entry)) (now (catalogue .entry)) r (now (cells .exit)) (now (catalogue .exit)) ⌝ }
@@ -96,7 +100,7 @@ pub extern "C" fn harbour_load(image: &[u8], cells: &mut [u64], catalogue: &mut 
 }
 
 // Writes the image of tables into the lent bytes.
-// The answer is the length x 32, or the refusal.
+// The answer is the length x 32, or the refusal, or 31 where the words are too few.
 #[no_mangle]
 pub extern "C" fn harbour_write(catalogue: &[u64], cells: &[u64], out: &mut [u8]) -> u64
     ensures { λ r. ⌜ WriteCall (now (catalogue .entry)) (now (cells .entry)) (now (out .entry)) r (now (out .exit)) ⌝ }
