@@ -1,7 +1,7 @@
 -- The writer's definitions, one law for each way that the code goes; what tables that meet no refusal have; and an image is short. Assumes nothing.
 use Prim.Native.Nat.{ℕ, zero, suc, _+_, _-_, _*_, _/_, _^_, _≤_, _<_}
 use native.Mathlib.Nat.{suc-mul, pow-le-pow-right}
-use native.Mathlib.Decide.{decLt}
+use native.Mathlib.Decide.{ℕ-discrete, decLt}
 use native.Mathlib.Omega.{arith}
 use native.Mathlib.Numerals.{sub-one}
 use mathlib.Core.Path.{_≡_, refl, sym, ap, _∙_}
@@ -267,3 +267,18 @@ module _ (cat : Catalogue) (cells : List ℕ) (room : ℕ) where
   pub written-good : writeFault cat cells ≡ 0 → length (imageOf cat cells) ≤ room → written cat cells room ≡ Length (length (imageOf cat cells))
   unfolding written lengthFault
   written-good e h = rw (e, le-ltb room (length (imageOf cat cells)) h)
+
+  -- A length that is given is a short image's.
+  pub written-few : (n : ℕ) → written cat cells room ≡ Length n → n ≤ 9 * (3 + 2 * mostTables + mostCells)
+  written-few n e =
+      elim (ℕ-discrete (writeFault cat cells) 0) [
+        | no f ↦ let q = written-fault (writeFault cat cells) refl f in let z : _≡_ {A = ℕ} 0 1 = cc in absurd (omega arith)
+        | yes f ↦
+            elim (decLt room (length (imageOf cat cells))) [
+              | yes h ↦ let q = written-short f h in let z : _≡_ {A = ℕ} 0 1 = cc in absurd (omega arith)
+              | no h ↦
+                  let q = written-good f (omega arith) in
+                  let z : n ≡ length (imageOf cat cells) = cc in
+                  omega (arith, image-few cat cells f)
+            ]
+      ]

@@ -7,7 +7,7 @@ use mathlib.Core.Path.{_≡_, refl, sym, ap, _∙_}
 use mathlib.Core.Logic.{⊎-elim}
 use mathlib.Core.List.{List, [], _∷_, _++_, append-assoc, append-nil}
 use lib.ListN.{length, take, drop, set, getD, length-append, length-drop, take-append-drop, drop-of-length-le, List·getD-append}
-use lib.Seq.{length-take-le, take-all, take-at, drop-at, drop-append-add, drop-drop, drop-cons, take-suc-set, drop-set-lt, getD-at, take-add}
+use lib.Seq.{length-take-le, take-all, take-at, drop-at, drop-append-add, drop-drop, drop-cons, take-suc, take-suc-set, drop-set-lt, getD-at, getD-drop, take-add}
 use Rattle.laws.specs.Lists.{put, over, part, tab}
 use Rattle.laws.proofs.TestLaws.{below-suc}
 
@@ -18,6 +18,15 @@ put-cons o n b bs l = rw (add-one n, drop-cons o n 0 l, take-suc-set o n b l, dr
 
 pub put-nil : (o : List ℕ) (n : ℕ) → over n [] o ≡ o
 put-nil o n = take-append-drop n o
+
+-- The next of the elements ws is put into its place.
+pub put-next : (o ws : List ℕ) (n w : ℕ) → n < length o → n < length ws → w ≡ getD ws n 0 → over n (drop n ws) o ≡ over (n + 1) (drop (n + 1) ws) (set o n w)
+put-next o ws n w h l e =
+    let d : drop n ws ≡ w ∷ drop (n + 1) ws = rw (e, add-one n) (drop-cons ws n 0 l) in
+    rw d (put-cons o n w (drop (n + 1) ws) h)
+
+pub take-next : (o bs : List ℕ) (n b : ℕ) → n < length o → take n o ≡ bs → take (n + 1) (set o n b) ≡ bs ++ (b ∷ [])
+take-next o bs n b h e = rw (add-one n, take-suc-set o n b h, e)
 
 -- ---- the front, one part behind the other
 
@@ -54,6 +63,10 @@ unfolding tab
 length-tab zero f = refl
 length-tab (suc k) f = simp (length-append, length-tab k f) (omega arith)
 
+pub tab-next : (k : ℕ) (f : ℕ → ℕ) → tab (k + 1) f ≡ tab k f ++ (f k ∷ [])
+unfolding tab
+tab-next k f = rw (add-one k)
+
 pub tab-at : (k : ℕ) (f : ℕ → ℕ) (u : ℕ) → u < k → getD (tab k f) u 0 ≡ f u
 unfolding tab
 tab-at zero f u l = absurd (not-suc-le-zero l)
@@ -79,3 +92,8 @@ part-more a (suc k) l z h = rw (sub-one (suc k), drop-cons l a 0 h, add-one a)
 -- j elements, and k behind them
 pub part-append : (a j k : ℕ) (l : List ℕ) → part a (j + k) l ≡ part a j l ++ part (a + j) k l
 part-append a j k l = take-add j k (drop a l) ∙ rw (drop-drop j a l)
+
+pub part-next : (a k : ℕ) (l : List ℕ) → a + k < length l → part a (k + 1) l ≡ part a k l ++ (getD l (a + k) 0 ∷ [])
+part-next a k l h =
+    let d : length (drop a l) ≡ length l - a = length-drop a l in
+    rw (add-one k, take-suc (drop a l) k 0 (omega arith), getD-drop a l k 0)

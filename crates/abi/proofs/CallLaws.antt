@@ -1,0 +1,37 @@
+-- What each call promises, one law for each way that its code goes. Assumes nothing.
+use Prim.Native.Nat.{ℕ}
+use mathlib.Core.Path.{_≡_, ap, subst, _∙_}
+use mathlib.Core.Bool.{true, false}
+use mathlib.Core.List.{List}
+use Rattle.laws.specs.Lists.{put}
+use Rattle.tables.specs.declared.Catalogue.{Catalogue}
+use Rattle.image.specs.declared.Loaded.{Loaded}
+use Rattle.image.specs.declared.Written.{Written}
+use Rattle.image.specs.Load.{firstTable, tablesCodes, cellsAfter, Loads}
+use Rattle.image.specs.Write.{Writes}
+use Rattle.door.specs.Door.{doorNumber}
+use Rattle.abi.specs.Words.{wordsOf, catalogueIn}
+use Rattle.abi.specs.Calls.{tooFewWords, short, LoadCall, writtenNumber, WriteCall}
+
+module _ (image cells words : List ℕ) where
+  pub load-short : short words ≡ true → LoadCall image cells words tooFewWords cells words
+  load-short e = record { answer = rw e; cells-after = rw e; words-after = rw e }
+
+  pub load-done : (r : Loaded) (k : ℕ) (cells′ words′ : List ℕ) → short words ≡ false → Loads image cells r cells′ → k ≡ doorNumber (r .verdict) → words′ ≡ put (wordsOf (r .catalogue)) words
+      → LoadCall image cells words k cells′ words′
+  load-done r k cells′ words′ e l d w =
+      record {
+        answer = rw e (d ∙ ap (λ (x : Loaded). doorNumber (x .verdict)) (l .answer));
+        cells-after = rw e (l .cells ∙ ap (λ (x : Loaded). cellsAfter (x .verdict) (tablesCodes (x .catalogue .n) image firstTable) cells) (l .answer));
+        words-after = rw e (w ∙ ap (λ (x : Loaded). put (wordsOf (x .catalogue)) words) (l .answer));
+      }
+
+module _ (words cells out : List ℕ) where
+  pub write-short : short words ≡ true → WriteCall words cells out tooFewWords out
+  write-short e = record { answer = rw e; bytes-after = rw e }
+
+  pub write-done : (cat : Catalogue) (r : Written) (k : ℕ) (out′ : List ℕ) → short words ≡ false → cat ≡ catalogueIn words → Writes cat cells out r out′ → k ≡ writtenNumber r
+      → WriteCall words cells out k out′
+  write-done cat r k out′ e c w n =
+      let v : Writes (catalogueIn words) cells out r out′ = subst (λ (x : Catalogue). Writes x cells out r out′) c w in
+      record { answer = rw e (n ∙ ap writtenNumber (v .answer)); bytes-after = rw (e, ← v .answer) (v .bytes) }

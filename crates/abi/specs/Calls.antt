@@ -1,0 +1,39 @@
+-- What the calls from C promise: each is the library's own call, with the catalogue as 18 words. Where a lent slice has fewer words than its call
+-- needs, the answer is 31 and nothing changes. Assumes nothing.
+use Prim.Native.Nat.{ℕ, _*_}
+use mathlib.Core.Path.{_≡_}
+use mathlib.Core.Bool.{Bool, cond}
+use mathlib.Core.List.{List}
+use lib.ListN.{length}
+use lib.Dec.{ltb}
+use Rattle.laws.specs.Lists.{put}
+use Rattle.image.specs.declared.Written.{Written}
+use Rattle.image.specs.declared.Written.the-variants.{Length, Refused}
+use Rattle.image.specs.Load.{firstTable, scanOf, tablesCodes, cellsAfter}
+use Rattle.image.specs.Write.{imageOf, written, bytesAfter}
+use Rattle.door.specs.Door.{doorNumber}
+use Rattle.abi.specs.Words.{catalogueWords, wordsOf, catalogueIn}
+
+-- No refusal of document 01 has this number.
+abbrev pub tooFewWords : ℕ
+tooFewWords = 31
+
+-- The lent words are too few for a catalogue.
+abbrev pub short : List ℕ → Bool
+short words = ltb (length words) catalogueWords
+
+-- A load: the door's number, the cells afterwards, and the words of the catalogue.
+pub record LoadCall (image cells words : List ℕ) (r : ℕ) (cells′ words′ : List ℕ) : Type 0 where
+  pub answer : r ≡ cond (short words) tooFewWords (doorNumber (scanOf image (length cells) .verdict))
+  pub cells-after : cells′ ≡ cond (short words) cells (cellsAfter (scanOf image (length cells) .verdict) (tablesCodes (scanOf image (length cells) .catalogue .n) image firstTable) cells)
+  pub words-after : words′ ≡ cond (short words) words (put (wordsOf (scanOf image (length cells) .catalogue)) words)
+
+-- The length x 32, or the refusal.
+abbrev pub writtenNumber : Written → ℕ
+writtenNumber (Length n) = n * 32
+writtenNumber (Refused k) = k
+
+-- A write: its number, and the bytes afterwards.
+pub record WriteCall (words cells out : List ℕ) (r : ℕ) (out′ : List ℕ) : Type 0 where
+  pub answer : r ≡ cond (short words) tooFewWords (writtenNumber (written (catalogueIn words) cells (length out)))
+  pub bytes-after : out′ ≡ cond (short words) out (bytesAfter (written (catalogueIn words) cells (length out)) (imageOf (catalogueIn words) cells) out)
