@@ -2,7 +2,7 @@
 use Prim.Native.Nat.{ℕ, zero, suc, _*_, _%_, _^_, _≤_, _<_}
 use native.Mathlib.Omega.{arith}
 use native.Mathlib.Nat.{mod-lt, zero-mod, div-eq-of-lt, lt-of-lt-of-le, mul-le-mul-left, eq-zero-or-pos}
-use native.Mathlib.Decide.{decLt}
+use native.Mathlib.Decide.{decLt, ℕ-discrete}
 use mathlib.Core.Path.{_≡_, sym, ap, subst, _∙_}
 use mathlib.Core.Logic.{_↔_, ⊎-elim}
 use mathlib.Core.Bool.{Bool, true, false, not, _||_}
@@ -13,16 +13,19 @@ use lib.Pow.{pow-pos, pow-mono, split}
 use borrow.Author.Tests.{lt-ltb, ltb-true, le-leb, leb-true, le-ltb, eq-eqb, eqb-true, not-true}
 use Rattle.laws.proofs.TestLaws.{clash, not-yes, or-case, or-left, or-right, any-some, any-of}
 use Rattle.words.proofs.WordLaws.{cut}
-use Rattle.keys.specs.Keys.{bitsPerRow, mostTables, rowOf, keyOf, rowsIn, Small}
-use Rattle.keys.proofs.KeyLaws.{below, row-zero, rows-eq}
+use Rattle.keys.specs.Keys.{bitsPerRow, mostTables, rowOf, withRow, keyOf, rowsIn, Small}
+use Rattle.keys.proofs.KeyLaws.{below, row-zero, row-same, row-other, rows-eq, with-lt}
 use Rattle.keys.proofs.SetLaws.{in-length, in-at, in-past, in-some, in-key, key-in, key-row, key-lt}
 use Rattle.tables.specs.declared.Catalogue.{Catalogue}
-use Rattle.tables.specs.Catalogues.{countOf}
+use Rattle.tables.specs.Catalogues.{countOf, total, rowAt}
 use Rattle.tables.specs.Checks.{Lawful}
-use Rattle.disjunction.specs.Sets.{at, Member, Valid, size}
+use Rattle.disjunction.specs.Sets.{at, Member, Valid, Row, size}
+use Rattle.disjunction.specs.Rule.{Place}
+use Rattle.disjunction.proofs.RowOrder.{rowAt-row}
 use Rattle.disjunction.proofs.RowSets.{size-pos}
 use Rattle.rows.specs.World.{worldOf, setOf}
-use Rattle.rows.specs.Named.{missing, beyond, named, Named, rowsThere}
+use Rattle.rows.specs.Named.{missing, beyond, named, Named, There, rowsThere}
+use Rattle.rows.proofs.WorldLaws.{rows-total, row-place}
 
 -- ---- the test
 
@@ -64,6 +67,11 @@ module _ (cat : Catalogue) (key : ℕ) where
       inside N e = absurd (omega (arith, N .low, leb-true (2 ^ (bitsPerRow * cat .n)) key e))
 
 -- ---- table by table
+
+-- A key with a row is not 0.
+pub key-some : (w key t : ℕ) → 0 < rowOf w key t → 0 < key
+key-some w zero t p = absurd (omega (arith, p, row-zero w t))
+key-some w (suc key) t p = omega arith
 
 -- A key of n rows has none in a table from n on, and a key that has none there is one of n rows.
 pub row-beyond : (w n key t : ℕ) → key < 2 ^ (w * n) → n ≤ t → rowOf w key t ≡ 0
@@ -144,15 +152,46 @@ module _ (cat : Catalogue) (cells : List ℕ) where
     pub valid-named : (t : ℕ) → Member T t → Named cat (keyOf bitsPerRow T)
     valid-named t m =
         record {
-          some = pos (keyOf bitsPerRow T) (key-row bitsPerRow T valid-small t);
+          some = key-some bitsPerRow (keyOf bitsPerRow T) t (rw (key-row bitsPerRow T valid-small t) m);
           low = subst (λ (n : ℕ). keyOf bitsPerRow T < 2 ^ (bitsPerRow * n)) (valid .long) (key-lt bitsPerRow T valid-small);
           rows = λ u l. rw (key-row bitsPerRow T valid-small u) (valid .bound u);
         }
-      where
-        pos : (k : ℕ) → rowOf bitsPerRow k t ≡ getD T t 0 → 0 < k
-        pos zero e = absurd (omega (arith, e, row-zero bitsPerRow t, m))
-        pos (suc k) e = omega arith
 
   -- The key of a key's set is the key.
   pub named-key : (key : ℕ) → Named cat key → keyOf bitsPerRow (setOf cat key) ≡ key
   named-key key N = key-in bitsPerRow (cat .n) key (N .low)
+
+  -- ---- rows
+
+  -- A row that is there is one of the rule's,
+  pub there-row : (t r : ℕ) → There cat t r → Row (worldOf cat cells) t r
+  there-row t r h = record { table = h .table; low = h .low; high = h .high }
+
+  -- and so is the row at each place of the row order.
+  pub place-there : (p : ℕ) → p < total cat → There cat (rowAt cat p .table) (rowAt cat p .row)
+  place-there p h =
+      let r = rowAt-row (worldOf cat cells) p (rw (rows-total cat cells) h) in
+      let e = row-place cat cells p h in
+      record {
+        table = rw (ap (λ (x : Place). x .table) e) at (r .table);
+        low = rw (ap (λ (x : Place). x .row) e) at (r .low);
+        high = subst (λ (x : Place). x .row ≤ countOf cat (x .table)) e (r .high);
+      }
+
+module _ (cat : Catalogue) where
+  -- A key with a row put in names rows, where the row is there.
+  pub named-with : (key t r : ℕ) → Named cat key → There cat t r → r < 2 ^ bitsPerRow → Named cat (withRow bitsPerRow key t r)
+  named-with key t r N h s =
+      record {
+        some = key-some bitsPerRow (withRow bitsPerRow key t r) t (rw (row-same bitsPerRow key t r s) (h .low));
+        low = with-lt bitsPerRow (cat .n) key t r (h .table) s (N .low);
+        rows = λ u l. go u l (ℕ-discrete u t);
+      }
+    where
+      go : (u : ℕ) → u < cat .n → Dec (u ≡ t) → rowOf bitsPerRow (withRow bitsPerRow key t r) u ≤ countOf cat u
+      go u l (yes e) = rw (e, row-same bitsPerRow key t r s) (h .high)
+      go u l (no g) = rw (row-other bitsPerRow key t r u s g) (N .rows u l)
+
+  -- A row that is there has room in a key.
+  pub row-small : (lent : ℕ) → Lawful cat lent → (t r : ℕ) → There cat t r → r < 2 ^ bitsPerRow
+  row-small lent L t r h = omega (arith, h .high, L .rows t (h .table))

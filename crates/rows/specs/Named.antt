@@ -26,6 +26,12 @@ pub record Named (cat : Catalogue) (key : ℕ) : Type 0 where
   pub low : key < 2 ^ (bitsPerRow * cat .n)
   pub rows : (t : ℕ) → t < cat .n → rowOf bitsPerRow key t ≤ countOf cat t
 
+-- Row r of table t is there.
+pub record There (cat : Catalogue) (t r : ℕ) : Type 0 where
+  pub table : t < cat .n
+  pub low : 0 < r
+  pub high : r ≤ countOf cat t
+
 -- How many rows table t has: none from n on.
 unfoldable pub rowsThere : Catalogue → ℕ → ℕ
 rowsThere cat t = cond (ltb t (cat .n)) (countOf cat t) 0
