@@ -21,6 +21,7 @@ use Rattle.disjunction.specs.Rule.{Place, rowsBelow, rows, rowAt}
 use Rattle.disjunction.specs.Cells.{sharing, Sharing, Matching, tables}
 use Rattle.disjunction.proofs.CellLaws.{sharing-iff, matching-iff, tables-symmetric}
 use Rattle.disjunction.proofs.RowOrder.{rowsTo-length, rowsBelow-at}
+use Rattle.rows.specs.Named.{There}
 use Rattle.rows.specs.World.{cellsIn, touchesIn, fitsIn, worldOf, placeOf}
 
 module _ (cat : Catalogue) (cells : List ℕ) where
@@ -76,9 +77,11 @@ module _ (cat : Catalogue) (cells : List ℕ) where
 
 -- ---- the codes
 
--- The code of an attribute that a table has, in a row that it has, is among the cells.
-pub code-inside : (cat : Catalogue) (lent : ℕ) → Lawful cat lent → (t r a : ℕ) → t < cat .n → 1 ≤ r → r ≤ countOf cat t → bitOf (schemeOf cat t) a ≡ true
-    → rowStart cat t r + ones (schemeOf cat t % 2 ^ a) < lent
+-- The code of an attribute of a scheme is among the cells, where the whole row is,
+pub code-inside : (scheme start lent a : ℕ) → start + ones scheme ≤ lent → bitOf scheme a ≡ true → start + ones (scheme % 2 ^ a) < lent
 unfolding bitOf
-code-inside cat lent L t r a l p h b =
-    omega (arith, rank-lt (schemeOf cat t) a (eqb-true (schemeOf cat t / 2 ^ a % 2) 1 b), row-inside cat lent L t r l p h, L .room)
+code-inside scheme start lent a h b = omega (arith, h, rank-lt scheme a (eqb-true (scheme / 2 ^ a % 2) 1 b))
+
+-- and each row that a lawful catalogue has is.
+pub row-room : (cat : Catalogue) (lent : ℕ) → Lawful cat lent → (t r : ℕ) → There cat t r → rowStart cat t r + ones (schemeOf cat t) ≤ lent
+row-room cat lent L t r h = omega (arith, row-inside cat lent L t r (h .table) (h .low) (h .high), L .room)
