@@ -1,0 +1,4 @@
+pub mod MatchLaws
+pub mod MergedLaws
+pub mod RowTestLaws
+pub mod Rounds
