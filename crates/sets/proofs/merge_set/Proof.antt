@@ -14,7 +14,7 @@ use Rattle.rows.specs.World.{setOf}
 use Rattle.rows.proofs.WorldLaws.{row-room}
 use Rattle.sets.specs.Merged.{Merged}
 use Rattle.sets.proofs.MergedLaws.{merged-none, merged-same, merged-add, upTo, up-out, up-row, up-skip, up-all}
-use Rattle.sets.proofs.RowTestLaws.{start-of}
+use Rattle.sets.proofs.RowTestLaws.{start-of, table-room}
 use Rattle.sets.proofs.merge_set.Statement.{statement}
 use Rattle.sets.proofs.merge_set.Tie as tie
 
@@ -30,8 +30,7 @@ fits : (c : tie.After-width Inv-loop μ-loop)
 fits c =
     let l = c .before .before .before .before .before .before in
     let s = l .before .before in
-    rw (c .width .ensures, l .loop .inv .1)
-    (omega (arith, table-ends (s .args .t1) _ (s .pre .0) (l .loop .u) (c .before .before .before .before .before .loop-test .taken), s .pre .0 .cells))
+    table-room (s .args .t1) _ (s .pre .0) (l .loop .u) _ _ (c .before .before .before .before .before .loop-test .taken) (l .loop .inv .1) (c .width .ensures)
 
 loop-holds : tie.Need-loop-holds Inv-loop μ-loop
 unfolding firstCell
