@@ -21,7 +21,7 @@ use Rattle.tables.specs.Sizes.{mostCells}
 use Rattle.tables.specs.declared.Catalogue.{Catalogue}
 use Rattle.tables.specs.Catalogues.{schemeOf, countOf, firstCell, rowStart}
 use Rattle.tables.specs.Checks.{Lawful}
-use Rattle.tables.proofs.CatalogueLaws.{table-ends}
+use Rattle.tables.proofs.CatalogueLaws.{cells-next, table-ends}
 use Rattle.disjunction.specs.Sets.{at}
 use Rattle.disjunction.specs.Rule.{Place, near, Agrees, rowTest}
 use Rattle.disjunction.proofs.RowTests.{near-iff, rowTest-iff, rowTest-absent}
@@ -110,3 +110,6 @@ start-of cat t r base e = rw e
 pub table-room : (cat : Catalogue) (lent : ℕ) → Lawful cat lent → (t base w : ℕ) → t < cat .n → base ≡ firstCell cat t → w ≡ ones (schemeOf cat t)
     → base + countOf cat t * w ≤ mostCells
 table-room cat lent L t base w l e f = rw (e, f) (omega (arith, table-ends cat lent L t l, L .cells))
+
+pub table-next : (cat : Catalogue) (t base w : ℕ) → base ≡ firstCell cat t → w ≡ ones (schemeOf cat t) → base + countOf cat t * w ≡ firstCell cat (t + 1)
+table-next cat t base w e f = rw (e, f) (sym (cells-next cat t))

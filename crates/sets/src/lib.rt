@@ -210,3 +210,124 @@ pub fn extend(cat: Catalogue, cells: &[u64], from: u64) -> Grown
     }
     Grown { key, tests }
 }
+
+// Whether table u's row of the set has to go: it is another table's than x's, and not consistent with x. Table u's cells begin at `base`.
+// The row of x is given as a merged row, so that one comparison serves the row test and the drop.
+fn parted(
+    cat: Catalogue,
+    cells: &[u64],
+    key: u64,
+    x: Row,
+    u: usize,
+    base: usize,
+    attrs: u64,
+    merged: &[u64; 64],
+) -> bool
+    requires { ⌜ Lawful cat (length (now cells)) × Named cat key × (u < cat .n) × (base ≡ firstCell cat u) × Merged cat (now cells) (only (x .table) (x .row)) (now merged) attrs × (0 < x .row) ⌝ }
+    ensures { λ r. ⌜ r ≡ parts (worldOf cat (now (cells .entry))) (setOf cat key) (placeOf x) u ⌝ }
+{
+    if u == x.table {
+        return false;
+    }
+    let q = keys::row_of(key, u) as usize;
+    if q == 0 {
+        return false;
+    }
+    let scheme = cat.schemes[u];
+    let start = base + (q - 1) * tables::width(scheme);
+    if fits_merged(cells, scheme, start, scheme & attrs, merged) {
+        return false;
+    }
+    true
+}
+
+// "Drop from T every row of s's table other than s and every row of another table not consistent with s; add s."
+// The row comes in first, and then what does not fit it goes.
+fn kept(cat: Catalogue, cells: &[u64], key: u64, x: Row) -> u64
+    requires { ⌜ Lawful cat (length (now cells)) × Named cat key × There cat (x .table) (x .row) ⌝ }
+    ensures { λ k. ⌜ KeyFor cat (dropped (worldOf cat (now (cells .entry))) (setOf cat key) (placeOf x)) k ⌝ }
+{
+    let n = cat.n;
+    let table = x.table;
+    let row = x.row;
+    let first = tables::first_cell(cat, table);
+    let mut merged: [u64; 64] = [0; 64];
+    let attrs = merge_add(cells, cat.schemes[table], first, row, 0, &mut merged);
+    let mut all = keys::with_row(key, table, row as u64);
+    let mut base: usize = 0;
+    let mut u: usize = 0;
+    while u < n {
+        if parted(cat, cells, key, x, u, base, attrs, &merged) {
+            all = keys::with_row(all, u, 0);
+        }
+        base = base + (cat.rows[u] as usize) * tables::width(cat.schemes[u]);
+        u += 1;
+    }
+    all
+}
+
+// Whether table u's row of the set `all` joins the part, which has the attributes `attrs`.
+// Touching alone decides, so no cell is read.
+fn joins(cat: Catalogue, all: u64, part: u64, attrs: u64, u: usize) -> bool
+    requires { ⌜ Lawful cat mostCells × (u < cat .n) × Attributes cat (at (setOf cat part)) attrs ⌝ }
+    ensures { λ r. ⌜ r ≡ joinsIn cat (setOf cat all) (setOf cat part) u ⌝ }
+{
+    if keys::row_of(all, u) == 0 {
+        return false;
+    }
+    if keys::row_of(part, u) != 0 {
+        return false;
+    }
+    let shared = cat.schemes[u] & attrs;
+    if shared == 0 {
+        return false;
+    }
+    true
+}
+
+// The first table whose row of the set `all` joins the part; n where none does.
+fn first_joining(cat: Catalogue, all: u64, part: u64, attrs: u64) -> usize
+    requires { ⌜ Lawful cat mostCells × Attributes cat (at (setOf cat part)) attrs ⌝ }
+    ensures { λ r. ⌜ FirstIn (cat .n) (joinsIn cat (setOf cat all) (setOf cat part)) r ⌝ }
+{
+    let n = cat.n;
+    let mut u: usize = 0;
+    while u < n {
+        if joins(cat, all, part, attrs, u) {
+            return u;
+        }
+        u += 1;
+    }
+    n
+}
+
+// "Keep the piece that holds s": from x alone, rows of the set that touch what is there are added until there is none.
+// The order in which they come in makes no difference: there is one piece only.
+fn piece_of(cat: Catalogue, all: u64, x: Row) -> u64
+    requires { ⌜ Lawful cat mostCells × There cat (x .table) (x .row) × (at (setOf cat all) (x .table) ≡ x .row) ⌝ }
+    ensures { λ k. ⌜ ((cells : List ℕ) → KeyFor cat (piece (worldOf cat cells) (setOf cat all) (placeOf x)) k) ⌝ }
+{
+    let n = cat.n;
+    let table = x.table;
+    let row = x.row;
+    let mut part = keys::with_row(0, table, row as u64);
+    let mut attrs = cat.schemes[table];
+    loop {
+        let u = first_joining(cat, all, part, attrs);
+        if u == n {
+            return part;
+        }
+        part = keys::with_row(part, u, keys::row_of(all, u));
+        attrs = attrs | cat.schemes[u];
+    }
+}
+
+// "Trial of row s on set T: drop ..; add s; keep the piece that holds s; extend." The search is the caller's.
+pub fn trial_set(cat: Catalogue, cells: &[u64], key: u64, row: Row) -> Grown
+    requires { ⌜ Lawful cat (length (now cells)) × Named cat key × There cat (row .table) (row .row) ⌝ }
+    ensures { λ e. ⌜ Comes cat (trial (worldOf cat (now (cells .entry))) (setOf cat key) (placeOf row)) (e .key) (e .tests) ⌝ }
+{
+    let all = kept(cat, cells, key, row);
+    let part = piece_of(cat, all, row);
+    extend(cat, cells, part)
+}

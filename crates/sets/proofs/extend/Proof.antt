@@ -49,13 +49,14 @@ few w =
     let l = w .before in
     let s = start l in
     let p = l .loop .inv .1 in
-    omega
-    (arith,
-    l .loop .inv .0,
-    p .count,
-    rows-few (s .args .t1) _ (s .pre .0) (l .loop .t) (p .turn),
-    s .pre .0 .rows _ (turn w),
-    growing-few (s .args .t1) (s .args .cells .now) _ (s .pre .0) (s .args .from) (s .pre .1) _ _ _ _ (l .before .rounds .inv))
+    omega (
+      arith,
+      l .loop .inv .0,
+      p .count,
+      rows-few (s .args .t1) _ (s .pre .0) (l .loop .t) (p .turn),
+      s .pre .0 .rows _ (turn w),
+      growing-few (s .args .t1) (s .args .cells .now) _ (s .pre .0) (s .args .from) (s .pre .1) _ _ _ _ (l .before .rounds .inv),
+    )
 
 -- the table's cells are there
 room : (w : tie.In-loop Inv-loop μ-loop Inv-rounds μ-rounds) (k : ℕ) → k ≡ ones (schemeOf (start (w .before) .args .t1) (w .before .loop .t))
@@ -125,9 +126,10 @@ loop-again c =
     let w = f .before .before .before in
     let l = w .before in
     let s = start l in
-    let z : (l .loop .tests + countOf (s .args .t1) (l .loop .t)) - l .before .rounds .tests ≡ (l .loop .tests - l .before .rounds .tests) + countOf (s .args .t1) (l .loop .t) = omega (arith, l .loop .inv .0) in
-    (omega (arith, l .loop .inv .0),
-    rw z (passed-next _ (s .args .cells .now) _ _ _ _ _ (turn w) (l .loop .inv .1) (f .find-in .ensures) (omega (arith, c .before .before .if1 .left)) _ (c .width .ensures)))
+    let z : (l .loop .tests + countOf (s .args .t1) (l .loop .t)) - l .before .rounds .tests ≡ (l .loop .tests - l .before .rounds .tests) + countOf (s .args .t1) (l .loop .t) = omega (arith, l .loop .inv .0) in (
+      omega (arith, l .loop .inv .0),
+      rw z (passed-next _ (s .args .cells .now) _ _ _ _ _ (turn w) (l .loop .inv .1) (f .find-in .ensures) (omega (arith, c .before .before .if1 .left)) _ (c .width .ensures)),
+    )
 
 mul-merge-add : tie.Need-mul-merge-add Inv-loop μ-loop Inv-rounds μ-rounds
 mul-merge-add c = search needs
@@ -141,10 +143,11 @@ merge-add-requires c κs =
     let f = c .before .before .before in
     let w = f .before .before .before in
     let s = start (w .before) in
-    let b = c .before .before .if1 .taken in
-    (omega arith,
-    rw (start-of (s .args .t1) (w .before .loop .t) _ _ (w .before .loop .inv .1 .place)) (row-room _ _ (s .pre .0) _ _ (record { table = turn w; low = omega arith; high = omega (arith, b) })),
-    w .before .before .rounds .inv .merged .long)
+    let b = c .before .before .if1 .taken in (
+      omega arith,
+      rw (start-of (s .args .t1) (w .before .loop .t) _ _ (w .before .loop .inv .1 .place)) (row-room _ _ (s .pre .0) _ _ (record { table = turn w; low = omega arith; high = omega (arith, b) })),
+      w .before .before .rounds .inv .merged .long,
+    )
 
 with-row-requires : tie.Need-with-row-requires Inv-loop μ-loop Inv-rounds μ-rounds
 with-row-requires c κs =

@@ -50,10 +50,11 @@ loop-less c = search needs
 loop-again : tie.Need-loop-again Inv-loop μ-loop
 loop-again c =
     let f = c .before in
-    let l = f .before .before in
-    (omega (arith, f .before .loop-test .taken),
-    omega (arith, l .loop .inv .1, l .before .width .ensures, start-next (l .before .before .before .args .base) (l .before .before .before .args .scheme) (l .loop .i)),
-    below-more _ _ (l .loop .inv .2) (rw (← l .loop .inv .1) (sym (f .fits-merged .ensures) ∙ c .if1 .left)))
+    let l = f .before .before in (
+      omega (arith, f .before .loop-test .taken),
+      omega (arith, l .loop .inv .1, l .before .width .ensures, start-next (l .before .before .before .args .base) (l .before .before .before .args .scheme) (l .loop .i)),
+      below-more _ _ (l .loop .inv .2) (rw (← l .loop .inv .1) (sym (f .fits-merged .ensures) ∙ c .if1 .left)),
+    )
 
 returns-2 : tie.Need-returns-2 Inv-loop μ-loop
 returns-2 c =

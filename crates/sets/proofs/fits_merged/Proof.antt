@@ -55,10 +55,11 @@ loop-again c =
     let d = c .before .before .before .before in
     let l = d .before in
     let v = l .before .before .loop .inv in
-    rw (c .without .ensures)
-    (v .0
-    ∙ matches-more _ _ _ _ _ _ (l .lowest .ensures) (omega (arith, c .before .if2 .left, c .before .before .before .if1 .left), c .before .if2 .left ∙ d .code-at .ensures),
-    under-less _ _ (l .lowest .ensures) _ (v .1))
+    rw (c .without .ensures) (
+      v .0
+          ∙ matches-more _ _ _ _ _ _ (l .lowest .ensures) (omega (arith, c .before .if2 .left, c .before .before .before .if1 .left), c .before .if2 .left ∙ d .code-at .ensures),
+      under-less _ _ (l .lowest .ensures) _ (v .1),
+    )
 
 returns-3 : tie.Need-returns-3 Inv-loop μ-loop
 returns-3 c = sym (c .before .loop .inv .0 ∙ rw (c .loop-test .left) (matches-none _ _ _ _))

@@ -49,11 +49,12 @@ merge-add-requires : tie.Need-merge-add-requires Inv-loop μ-loop
 merge-add-requires c κs =
     let l = c .before .before .before .before .before in
     let s = l .before .before in
-    let b = c .before .before .before .before .loop-test .taken in
-    (omega (arith, c .before .if1 .taken),
-    rw (start-of (s .args .t1) (l .loop .u) _ _ (l .loop .inv .1))
-    (row-room _ _ (s .pre .0) _ _ (record { table = b; low = omega (arith, c .before .if1 .taken); high = rw (c .before .before .row-of .ensures) (s .pre .1 .rows _ b) })),
-    l .loop .inv .2 .long)
+    let b = c .before .before .before .before .loop-test .taken in (
+      omega (arith, c .before .if1 .taken),
+      rw (start-of (s .args .t1) (l .loop .u) _ _ (l .loop .inv .1))
+          (row-room _ _ (s .pre .0) _ _ (record { table = b; low = omega (arith, c .before .if1 .taken); high = rw (c .before .before .row-of .ensures) (s .pre .1 .rows _ b) })),
+      l .loop .inv .2 .long,
+    )
 
 mul-base : tie.Need-mul-base Inv-loop μ-loop
 mul-base c = search needs
@@ -84,16 +85,17 @@ loop-again c =
     let l = c .before .before .before .before .before .before in
     let s = l .before .before in
     let b = c .before .before .before .before .before .loop-test .taken in
-    let own = in-at bitsPerRow (s .args .t1 .n) (s .args .key) (l .loop .u) b ∙ sym (c .before .before .before .row-of .ensures) in
-    (omega (arith, b),
-    rw (c .width .ensures) (omega (arith, l .loop .inv .1, cells-next (s .args .t1) (l .loop .u))),
-    ⊎-elim
-    (λ w.
-    rw (w .3, w .4)
-    (merged-add _ _ _ (s .pre .0) _ _ _ _ b (up-row _ _ _ (omega (arith, w .0 .taken)) own) _ _ _ _ (l .loop .inv .2)
-    (rw (← start-of (s .args .t1) (l .loop .u) _ _ (l .loop .inv .1)) (w .2 .ensures))))
-    (λ w. rw (w .1, w .2) (merged-same _ _ _ _ _ _ (λ v. up-skip _ _ v (own ∙ w .0 .left)) (l .loop .inv .2)))
-    (c .before .before .if1 .came))
+    let own = in-at bitsPerRow (s .args .t1 .n) (s .args .key) (l .loop .u) b ∙ sym (c .before .before .before .row-of .ensures) in (
+      omega (arith, b),
+      rw (c .width .ensures) (omega (arith, l .loop .inv .1, cells-next (s .args .t1) (l .loop .u))),
+      ⊎-elim
+          (λ w.
+          rw (w .3, w .4)
+          (merged-add _ _ _ (s .pre .0) _ _ _ _ b (up-row _ _ _ (omega (arith, w .0 .taken)) own) _ _ _ _ (l .loop .inv .2)
+          (rw (← start-of (s .args .t1) (l .loop .u) _ _ (l .loop .inv .1)) (w .2 .ensures))))
+          (λ w. rw (w .1, w .2) (merged-same _ _ _ _ _ _ (λ v. up-skip _ _ v (own ∙ w .0 .left)) (l .loop .inv .2)))
+          (c .before .before .if1 .came),
+    )
 
 returns : tie.Need-returns Inv-loop μ-loop
 returns c =
