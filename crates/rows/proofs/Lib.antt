@@ -1,0 +1,2 @@
+pub mod WorldLaws
+pub mod NamedLaws

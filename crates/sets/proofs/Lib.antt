@@ -1,0 +1,7 @@
+pub mod MatchLaws
+pub mod MergedLaws
+pub mod RowTestLaws
+pub mod Rounds
+pub mod Dropping
+pub mod Joining
+pub mod Trials

@@ -1,0 +1,219 @@
+-- `sets::extend` meets its contract. Round loop: what is left to do from here is the whole extension (`Growing`); each round adds a table.
+-- Table walk: no row of the tables passed may be added (`Passed`). Assumes nothing.
+use borrow.Author.Needs.{needs}
+use native.Mathlib.Omega.{arith}
+use Prim.Native.Nat.{ℕ, suc, _+_, _-_, _*_, _^_, _≤_, _<_}
+use mathlib.Core.Path.{_≡_, refl, sym, ap, _∙_}
+use lib.ListN.{length, getD}
+use lib.Count.{ones}
+use mathlib.Core.Path.{subst}
+use Rattle.keys.specs.Keys.{bitsPerRow}
+use Rattle.tables.specs.Sizes.{mostTables, mostRows, mostCells}
+use Rattle.tables.specs.Catalogues.{countOf, schemeOf, firstCell}
+use Rattle.tables.proofs.CatalogueLaws.{rows-few, table-ends}
+use Rattle.disjunction.specs.Sets.{size}
+use Rattle.disjunction.specs.Rule.{extension}
+use Rattle.rows.specs.World.{worldOf, setOf}
+use Rattle.rows.specs.Named.{There}
+use Rattle.rows.proofs.WorldLaws.{row-room}
+use Rattle.rows.proofs.NamedLaws.{row-small}
+use Rattle.sets.specs.Promises.{Comes}
+use Rattle.sets.proofs.RowTestLaws.{start-of, table-room}
+use Rattle.sets.proofs.Rounds.{Passed, passed-none, passed-next, Growing, mostTests, growing-start, growing-few, found-there, growing-less, growing-hit, growing-end}
+use native.Mathlib.Numerals.{add-one}
+use Rattle.sets.proofs.extend.Statement.{statement}
+use Rattle.sets.proofs.extend.Tie as tie
+
+abbrev Inv-loop : tie.InvT-loop
+Inv-loop cells from cat n merged attrs key tests₀ base₀ t₀ tests base t = (tests₀ ≤ tests) × Passed cat cells (setOf cat key) t base (tests - tests₀)
+
+abbrev μ-loop : tie.MeasureT-loop
+μ-loop cells from cat n merged attrs key tests₀ base₀ t₀ tests base t = n - t
+
+abbrev Inv-rounds : tie.InvT-rounds
+Inv-rounds cells from cat n merged₀ attrs₀ key₀ tests₀ merged attrs key tests = Growing cat cells from key attrs merged tests
+
+abbrev μ-rounds : tie.MeasureT-rounds
+μ-rounds cells from cat n merged₀ attrs₀ key₀ tests₀ merged attrs key tests = n - size (setOf cat key)
+
+abbrev start : tie.At-loop Inv-loop μ-loop Inv-rounds μ-rounds → tie.Start Inv-loop μ-loop Inv-rounds μ-rounds
+start l = l .before .before .before .before .before
+
+-- there is such a table
+turn : (w : tie.In-loop Inv-loop μ-loop Inv-rounds μ-rounds) → w .before .loop .t < start (w .before) .args .t1 .n
+turn w = omega (arith, w .before .loop .inv .1 .turn, w .loop-test .left)
+
+-- the tests so far and those of the table
+few : (w : tie.In-loop Inv-loop μ-loop Inv-rounds μ-rounds) → w .before .loop .tests + countOf (start (w .before) .args .t1) (w .before .loop .t) ≤ mostTests + mostRows * mostTables + mostRows
+few w =
+    let l = w .before in
+    let s = start l in
+    let p = l .loop .inv .1 in
+    omega (
+      arith,
+      l .loop .inv .0,
+      p .count,
+      rows-few (s .args .t1) _ (s .pre .0) (l .loop .t) (p .turn),
+      s .pre .0 .rows _ (turn w),
+      growing-few (s .args .t1) (s .args .cells .now) _ (s .pre .0) (s .args .from) (s .pre .1) _ _ _ _ (l .before .rounds .inv),
+    )
+
+-- the table's cells are there
+room : (w : tie.In-loop Inv-loop μ-loop Inv-rounds μ-rounds) (k : ℕ) → k ≡ ones (schemeOf (start (w .before) .args .t1) (w .before .loop .t))
+    → w .before .loop .base + countOf (start (w .before) .args .t1) (w .before .loop .t) * k ≤ mostCells
+room w k e =
+    let s = start (w .before) in
+    table-room (s .args .t1) _ (s .pre .0) (w .before .loop .t) _ k (turn w) (w .before .loop .inv .1 .place) e
+
+merge-set-requires : tie.Need-merge-set-requires Inv-loop μ-loop Inv-rounds μ-rounds
+merge-set-requires c κs = let s = c .before .before in (s .pre .0, s .pre .1, refl)
+
+rounds-holds : tie.Need-rounds-holds Inv-loop μ-loop Inv-rounds μ-rounds
+rounds-holds c = let s = c .before .before .before in growing-start _ _ _ (s .pre .0) _ (s .pre .1) _ _ (c .merge-set .ensures)
+
+loop-holds : tie.Need-loop-holds Inv-loop μ-loop Inv-rounds μ-rounds
+loop-holds c =
+    let z : c .rounds .tests - c .rounds .tests ≡ 0 = omega arith in
+    (omega arith, rw z (passed-none _ _ _))
+
+mul-count : tie.Need-mul-count Inv-loop μ-loop Inv-rounds μ-rounds
+mul-count c = search needs
+
+element-copy-out-count : tie.Need-element-copy-out-count Inv-loop μ-loop Inv-rounds μ-rounds
+element-copy-out-count c = search needs
+
+cast-count : tie.Need-cast-count Inv-loop μ-loop Inv-rounds μ-rounds
+cast-count c = search needs
+
+find-in-requires : tie.Need-find-in-requires Inv-loop μ-loop Inv-rounds μ-rounds
+find-in-requires c κs =
+    let w = c .before .before in
+    (start (w .before) .pre .0, turn w, w .before .loop .inv .1 .place, w .before .before .rounds .inv .merged)
+
+add-row : tie.Need-add-row Inv-loop μ-loop Inv-rounds μ-rounds
+add-row c = let w = c .before .before .before .before in omega (arith, few w, c .if1 .taken)
+
+add-tests : tie.Need-add-tests Inv-loop μ-loop Inv-rounds μ-rounds
+add-tests c = let w = c .before .before .before .before in omega (arith, few w, c .if1 .taken)
+
+add-tests-2 : tie.Need-add-tests-2 Inv-loop μ-loop Inv-rounds μ-rounds
+add-tests-2 c = let w = c .before .before .before .before in omega (arith, few w)
+
+mul-width : tie.Need-mul-width Inv-loop μ-loop Inv-rounds μ-rounds
+mul-width c = search needs
+
+element-copy-out-width : tie.Need-element-copy-out-width Inv-loop μ-loop Inv-rounds μ-rounds
+element-copy-out-width c = search needs
+
+width-requires : tie.Need-width-requires Inv-loop μ-loop Inv-rounds μ-rounds
+width-requires c κs = search needs
+
+mul-base : tie.Need-mul-base Inv-loop μ-loop Inv-rounds μ-rounds
+mul-base c = omega (arith, room (c .before .before .before .before .before .before) _ (c .width .ensures))
+
+add-base : tie.Need-add-base Inv-loop μ-loop Inv-rounds μ-rounds
+add-base c = omega (arith, room (c .before .before .before .before .before .before) _ (c .width .ensures))
+
+add-t : tie.Need-add-t Inv-loop μ-loop Inv-rounds μ-rounds
+add-t c = search needs
+
+loop-less : tie.Need-loop-less Inv-loop μ-loop Inv-rounds μ-rounds
+loop-less c = let w = c .before .before .before .before .before .before in omega (arith, turn w)
+
+loop-again : tie.Need-loop-again Inv-loop μ-loop Inv-rounds μ-rounds
+loop-again c =
+    let f = c .before .before .before in
+    let w = f .before .before .before in
+    let l = w .before in
+    let s = start l in
+    let z : (l .loop .tests + countOf (s .args .t1) (l .loop .t)) - l .before .rounds .tests ≡ (l .loop .tests - l .before .rounds .tests) + countOf (s .args .t1) (l .loop .t) = omega (arith, l .loop .inv .0) in (
+      omega (arith, l .loop .inv .0),
+      rw z (passed-next _ (s .args .cells .now) _ _ _ _ _ (turn w) (l .loop .inv .1) (f .find-in .ensures) (omega (arith, c .before .before .if1 .left)) _ (c .width .ensures)),
+    )
+
+mul-merge-add : tie.Need-mul-merge-add Inv-loop μ-loop Inv-rounds μ-rounds
+mul-merge-add c = search needs
+
+element-copy-out-merge-add :
+    tie.Need-element-copy-out-merge-add Inv-loop μ-loop Inv-rounds μ-rounds
+element-copy-out-merge-add c = search needs
+
+merge-add-requires : tie.Need-merge-add-requires Inv-loop μ-loop Inv-rounds μ-rounds
+merge-add-requires c κs =
+    let f = c .before .before .before in
+    let w = f .before .before .before in
+    let s = start (w .before) in
+    let b = c .before .before .if1 .taken in (
+      omega arith,
+      rw (start-of (s .args .t1) (w .before .loop .t) _ _ (w .before .loop .inv .1 .place)) (row-room _ _ (s .pre .0) _ _ (record { table = turn w; low = omega arith; high = omega (arith, b) })),
+      w .before .before .rounds .inv .merged .long,
+    )
+
+with-row-requires : tie.Need-with-row-requires Inv-loop μ-loop Inv-rounds μ-rounds
+with-row-requires c κs =
+    let f = c .before .before .before .before in
+    let w = f .before .before .before in
+    let s = start (w .before) in
+    (omega (arith, turn w, s .pre .0 .tables), row-small _ _ (s .pre .0) _ _ (record { table = turn w; low = omega arith; high = omega (arith, c .before .before .before .if1 .taken) }))
+
+rounds-less : tie.Need-rounds-less Inv-loop μ-loop Inv-rounds μ-rounds
+rounds-less c =
+    let f = c .before .before .before .before .before in
+    let w = f .before .before .before in
+    let s = start (w .before) in
+    rw (c .with-row .ensures, add-one (f .find-in .result))
+    (growing-less _ (s .args .cells .now) _ (s .pre .0) (s .args .from) (s .pre .1) _ _ _ _ _ _ (w .before .before .rounds .inv) (turn w) (f .find-in .ensures) (c .before .before .before .before .if1 .taken))
+
+rounds-again : tie.Need-rounds-again Inv-loop μ-loop Inv-rounds μ-rounds
+rounds-again c =
+    let f = c .before .before .before .before .before in
+    let w = f .before .before .before in
+    let l = w .before in
+    let s = start l in
+    let o = add-one (f .find-in .result) in
+    let z : l .loop .tests + suc (f .find-in .result) ≡ l .before .rounds .tests + ((l .loop .tests - l .before .rounds .tests) + suc (f .find-in .result)) = omega (arith, l .loop .inv .0) in
+    rw (c .with-row .ensures, o, z)
+    (growing-hit _ (s .args .cells .now) _ (s .pre .0) (s .args .from) (s .pre .1) _ _ _ _ _ _ (l .before .rounds .inv) (turn w) (f .find-in .ensures) (c .before .before .before .before .if1 .taken) _ _ (l .loop .inv .1) _ _
+    (rw (← o, ← start-of (s .args .t1) (l .loop .t) (f .find-in .result + 1) _ (l .loop .inv .1 .place)) (c .before .merge-add .ensures)))
+
+returns : tie.Need-returns Inv-loop μ-loop Inv-rounds μ-rounds
+returns c =
+    let l = c .before in
+    let s = start l in
+    let z : l .before .rounds .tests + (l .loop .tests - l .before .rounds .tests) ≡ l .loop .tests = omega (arith, l .loop .inv .0) in
+    subst (λ (x : ℕ). Comes (s .args .t1) (extension (worldOf (s .args .t1) (s .args .cells .now)) (setOf (s .args .t1) (s .args .from))) (l .before .rounds .key) x) z
+    (growing-end _ _ _ (s .pre .0) _ (s .pre .1) _ _ _ _ _ _ (l .before .rounds .inv) (rw (c .loop-test .taken) at (l .loop .inv .1)))
+
+pub extend-spec : {M : Type 1} → statement M
+extend-spec =
+    tie.close
+    (tie.spec
+    Inv-loop
+    μ-loop
+    Inv-rounds
+    μ-rounds
+    merge-set-requires
+    rounds-holds
+    loop-holds
+    mul-count
+    element-copy-out-count
+    cast-count
+    find-in-requires
+    add-row
+    add-tests
+    add-tests-2
+    mul-width
+    element-copy-out-width
+    width-requires
+    mul-base
+    add-base
+    add-t
+    loop-less
+    loop-again
+    mul-merge-add
+    element-copy-out-merge-add
+    merge-add-requires
+    with-row-requires
+    rounds-less
+    rounds-again
+    returns)

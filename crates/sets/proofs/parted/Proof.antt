@@ -1,0 +1,101 @@
+-- `sets::parted` meets its contract, by one law for each way (`parts-own`, `parts-none`, `parts-fits`). Assumes nothing.
+use native.Mathlib.Omega.{arith}
+use Prim.Native.Nat.{ℕ, _+_, _-_, _*_, _^_, _≤_, _<_}
+use mathlib.Core.Path.{_≡_, refl, sym, ap, _∙_}
+use lib.ListN.{length, getD}
+use borrow.Author.Needs.{needs}
+use mathlib.Core.Bool.{Bool, not}
+use lib.Count.{ones}
+use Rattle.keys.specs.Keys.{bitsPerRow, rowOf}
+use Rattle.keys.proofs.SetLaws.{in-at}
+use Rattle.tables.specs.Catalogues.{schemeOf, rowStart}
+use Rattle.disjunction.specs.Sets.{at}
+use Rattle.rows.specs.World.{worldOf, setOf, placeOf, fitsIn}
+use Rattle.rows.specs.Named.{There}
+use Rattle.rows.proofs.WorldLaws.{row-room}
+use Rattle.sets.specs.Merged.{rowIn}
+use Rattle.sets.specs.Promises.{parts}
+use Rattle.sets.proofs.MergedLaws.{shared-under}
+use Rattle.sets.proofs.RowTestLaws.{start-of}
+use Rattle.sets.proofs.Dropping.{parts-own, parts-none, member-room, parts-answer}
+use Rattle.sets.proofs.parted.Statement.{statement}
+use Rattle.sets.proofs.parted.Tie as tie
+
+-- the row's cells are there
+room : (c : tie.After-width)
+    → (c .before .before .before .before .before .before .before .args .base + (c .before .before .before .row-of .result - 1) * c .width .result)
+    + ones (schemeOf (c .before .before .before .before .before .before .before .args .t1) (c .before .before .before .before .before .before .before .args .u))
+    ≤ length (c .before .before .before .before .before .before .before .args .cells .now)
+room c =
+    let s = c .before .before .before .before .before .before .before in
+    member-room (s .args .t1) _ (s .pre .0) (s .args .key) _ _ _ _ (s .pre .2) (c .before .before .before .row-of .ensures) (c .before .before .if2 .left) (s .pre .3) (c .width .ensures) (s .pre .1)
+
+-- what the comparison answers
+answer : (c : tie.After-fits-merged)
+    → parts (worldOf (c .before .before .before .before .before .before .before .before .args .t1) (c .before .before .before .before .before .before .before .before .args .cells .now))
+    (setOf (c .before .before .before .before .before .before .before .before .args .t1) (c .before .before .before .before .before .before .before .before .args .key))
+    (placeOf (c .before .before .before .before .before .before .before .before .args .x)) (c .before .before .before .before .before .before .before .before .args .u)
+    ≡ not (c .fits-merged .result)
+answer c =
+    let w = c .before in
+    let s = w .before .before .before .before .before .before .before in
+    parts-answer (s .args .t1) _ (s .pre .0) (s .args .key) _ _ _ _ (s .pre .2) (w .before .before .before .row-of .ensures) (w .before .before .if2 .left) (s .pre .3) (w .width .ensures)
+    _ _ _ _ (s .pre .5) (w .before .before .before .before .if1 .left) (s .pre .4)
+    ∙ ap not (sym (c .fits-merged .ensures))
+
+returns : tie.Need-returns
+returns c =
+    let s = c .before .before .before in
+    sym (parts-own (worldOf (s .args .t1) (s .args .cells .now)) (setOf (s .args .t1) (s .args .key)) _ _ (c .if1 .taken))
+
+row-of-requires : tie.Need-row-of-requires
+row-of-requires c κs = search needs
+
+returns-2 : tie.Need-returns-2
+returns-2 c =
+    let s = c .before .before .before .before .before in
+    sym (parts-none (worldOf (s .args .t1) (s .args .cells .now)) (setOf (s .args .t1) (s .args .key)) _ _ (in-at bitsPerRow _ _ _ (s .pre .2) ∙ sym (c .before .row-of .ensures) ∙ c .if2 .taken))
+
+mul-scheme : tie.Need-mul-scheme
+mul-scheme c = search needs
+
+element-copy-out-scheme : tie.Need-element-copy-out-scheme
+element-copy-out-scheme c = search needs
+
+sub-start : tie.Need-sub-start
+sub-start c = search needs
+
+width-requires : tie.Need-width-requires
+width-requires c κs = search needs
+
+mul-start : tie.Need-mul-start
+mul-start c = omega (arith, room c)
+
+add-start : tie.Need-add-start
+add-start c = omega (arith, room c)
+
+fits-merged-requires : tie.Need-fits-merged-requires
+fits-merged-requires c κs = (room c, shared-under _ _)
+
+returns-3 : tie.Need-returns-3
+returns-3 c = sym (answer (c .before) ∙ ap not (c .if3 .taken))
+
+returns-4 : tie.Need-returns-4
+returns-4 c = sym (answer (c .before) ∙ ap not (c .if3 .left))
+
+pub parted-spec : {M : Type 1} → statement M
+parted-spec =
+    tie.close
+    (tie.spec
+    returns
+    row-of-requires
+    returns-2
+    mul-scheme
+    element-copy-out-scheme
+    sub-start
+    width-requires
+    mul-start
+    add-start
+    fits-merged-requires
+    returns-3
+    returns-4)

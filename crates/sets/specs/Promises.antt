@@ -1,0 +1,43 @@
+-- What the functions of this crate promise: each answer by the rule of document 01 ('The stream's own rule'), as crate disjunction renders it, on the
+-- tables of crate rows. Nothing is asked of the rows of a set together, so that damaged records are determined too. Assumes nothing.
+use Prim.Native.Nat.{ℕ, suc, _*_, _^_, _≤_, _<_}
+use mathlib.Core.Path.{_≡_}
+use mathlib.Core.Bool.{Bool, true, false, not, _&&_}
+use mathlib.Core.List.{List, []}
+use lib.Dec.{eqb}
+use Rattle.keys.specs.Keys.{bitsPerRow, keyOf}
+use Rattle.tables.specs.declared.Catalogue.{Catalogue}
+use Rattle.disjunction.specs.Sets.{Tables, at}
+use Rattle.disjunction.specs.Rule.{Place, Grown, rowIn, member, joins, rowTest}
+use Rattle.rows.specs.World.{worldOf, setOf}
+use Rattle.rows.specs.Named.{Named}
+
+-- i is the first of the numbers below k that passes; k where none does.
+pub record FirstIn (k : ℕ) (ok : ℕ → Bool) (i : ℕ) : Type 0 where
+  pub within : i ≤ k
+  pub before : (j : ℕ) → j < i → ok j ≡ false
+  pub found : i < k → ok i ≡ true
+
+-- The row test of row i + 1 of table t, on the set of a key.
+abbrev pub tested : Catalogue → List ℕ → ℕ → ℕ → ℕ → Bool
+tested cat cells key t i = rowTest (worldOf cat cells) (setOf cat key) (record { table = t; row = suc i })
+
+-- `key` is the key of the set T.
+pub record KeyFor (cat : Catalogue) (T : List ℕ) (key : ℕ) : Type 0 where
+  pub low : key < 2 ^ (bitsPerRow * cat .n)
+  pub rows : setOf cat key ≡ T
+
+-- What an extension or a trial comes to: the set as its key, and the row tests made.
+pub record Comes (cat : Catalogue) (g : Grown) (to count : ℕ) : Type 0 where
+  pub key : to ≡ keyOf bitsPerRow (g .rows)
+  pub rows : setOf cat to ≡ g .rows
+  pub tests : count ≡ g .tests
+  pub named : Named cat to
+
+-- "Every row of another table not consistent with s": table u's row of T has to go.
+unfoldable pub parts : Tables → List ℕ → Place → ℕ → Bool
+parts W T s u = not (eqb u (s .table)) && member T u && not (W .fits u (at T u) (s .table) (s .row))
+
+-- Table u's row of the set `all` joins the set `part`. No cell has a say in it.
+unfoldable pub joinsIn : Catalogue → List ℕ → List ℕ → ℕ → Bool
+joinsIn cat all part u = member all u && joins (worldOf cat []) part (rowIn all u)

@@ -1,0 +1,333 @@
+// Row sets as keys: the row test by the set's merged row, the extension, and the set that a trial comes to.
+ghost use mathlib.Core.Path.{_≡_};
+ghost use mathlib.Core.List.{List};
+ghost use Prim.Native.Nat.{ℕ, _+_, _-_, _*_, _^_, _≤_, _<_};
+ghost use lib.ListN.{length};
+ghost use lib.Bits.{bitAnd, bitOr};
+ghost use lib.Count.{ones};
+ghost use Rattle.keys.specs.Keys.{bitsPerRow};
+ghost use Rattle.tables.specs.Sizes.{mostRows, mostCells};
+ghost use Rattle.tables.specs.Catalogues.{countOf, firstCell};
+ghost use Rattle.tables.specs.Checks.{Lawful};
+ghost use Rattle.disjunction.specs.Sets.{at};
+ghost use Rattle.disjunction.specs.Rule.{extension, dropped, piece, trial};
+ghost use Rattle.rows.specs.World.{worldOf, setOf, placeOf};
+ghost use Rattle.rows.specs.Named.{Named, There};
+ghost use Rattle.sets.specs.Merged.{mergedLength, Under, Attributes, Merged, matches, joint, Joined, Added, rowIn, only};
+ghost use Rattle.sets.specs.Promises.{FirstIn, tested, KeyFor, Comes, parts, joinsIn};
+use tables::Catalogue;
+use tables::Row;
+
+// What an extension or a trial comes to: the key of the set, and how many row tests were made.
+pub struct Grown {
+    pub key: u64,
+    pub tests: usize,
+}
+
+// Whether the row of this scheme at `start` has the merged codes at the shared attributes.
+// Only the set bits of the mask are gone through, each with one read of the row and one of the merged row.
+fn fits_merged(cells: &[u64], scheme: u64, start: usize, shared: u64, merged: &[u64; 64]) -> bool
+    requires { ⌜ (start + ones scheme ≤ length (now cells)) × Under shared scheme ⌝ }
+    ensures { λ r. ⌜ r ≡ matches (now (cells .entry)) scheme start shared (now (merged .entry)) ⌝ }
+{
+    let mut rest = shared;
+    while rest != 0 {
+        let a = words::lowest(rest);
+        let code = rows::code_at(cells, scheme, start, a);
+        if code == 0 {
+            return false;
+        }
+        if merged[a] != code {
+            return false;
+        }
+        rest = words::without(rest, a);
+    }
+    true
+}
+
+// The merged code of an attribute that the new row has.
+// Where members disagree it is 0 as for null, and so matches nothing from then on.
+fn join_code(seen: bool, old: u64, code: u64) -> u64
+    ensures { λ r. ⌜ r ≡ joint seen old code ⌝ }
+{
+    if !seen {
+        return code;
+    }
+    if old == code {
+        return old;
+    }
+    0
+}
+
+// Merges the row of this scheme at `start` into the merged row of a set with the attributes `attrs`.
+// The set's rows are read once in an extension, and not once for each row tested.
+fn merge_row(cells: &[u64], scheme: u64, start: usize, attrs: u64, merged: &mut [u64; 64])
+    requires { ⌜ (start + ones scheme ≤ length (now cells)) × (length (now merged) ≡ mergedLength) ⌝ }
+    ensures { λ _. ⌜ Joined (now (cells .entry)) scheme start attrs (now (merged .entry)) (now (merged .exit)) ⌝ }
+{
+    let mut rest = scheme;
+    while rest != 0 {
+        let a = words::lowest(rest);
+        let code = rows::code_at(cells, scheme, start, a);
+        let seen = words::bit_of(attrs, a);
+        let old = merged[a];
+        merged[a] = join_code(seen, old, code);
+        rest = words::without(rest, a);
+    }
+}
+
+// Merges a table's row into the merged row of a set with the attributes `attrs`, and gives the attributes with it. The table's cells begin at `base`.
+// Every row that a merged row is made of comes in by this.
+fn merge_add(
+    cells: &[u64],
+    scheme: u64,
+    base: usize,
+    row: usize,
+    attrs: u64,
+    merged: &mut [u64; 64],
+) -> u64
+    requires { ⌜ (1 ≤ row) × (rowIn base scheme (row - 1) + ones scheme ≤ length (now cells)) × (length (now merged) ≡ mergedLength) ⌝ }
+    ensures { λ k. ⌜ Added (now (cells .entry)) scheme (rowIn base scheme (row - 1)) attrs (now (merged .entry)) (now (merged .exit)) k ⌝ }
+{
+    let start = base + (row - 1) * tables::width(scheme);
+    merge_row(cells, scheme, start, attrs, merged);
+    attrs | scheme
+}
+
+// Makes the merged row of a set, and gives its attributes.
+// The first cell of the tables is carried along, so that none is counted twice.
+fn merge_set(cat: Catalogue, cells: &[u64], key: u64, merged: &mut [u64; 64]) -> u64
+    requires { ⌜ Lawful cat (length (now cells)) × Named cat key × (length (now merged) ≡ mergedLength) ⌝ }
+    ensures { λ k. ⌜ Merged cat (now (cells .entry)) (at (setOf cat key)) (now (merged .exit)) k ⌝ }
+{
+    let n = cat.n;
+    let mut attrs: u64 = 0;
+    let mut base: usize = 0;
+    let mut u: usize = 0;
+    while u < n {
+        let scheme = cat.schemes[u];
+        let r = keys::row_of(key, u) as usize;
+        if r != 0 {
+            attrs = merge_add(cells, scheme, base, r, attrs, merged);
+        }
+        base = base + (cat.rows[u] as usize) * tables::width(scheme);
+        u += 1;
+    }
+    attrs
+}
+
+// The first of a table's rows, from 0, that has the merged codes at the shared attributes; their number where none has.
+// Rows lie one after the other, so the next one is a width further.
+fn first_fit(
+    cells: &[u64],
+    scheme: u64,
+    base: usize,
+    count: usize,
+    shared: u64,
+    merged: &[u64; 64],
+) -> usize
+    requires { ⌜ (rowIn base scheme count ≤ length (now cells)) × Under shared scheme ⌝ }
+    ensures { λ r. ⌜ FirstIn count (λ i. matches (now (cells .entry)) scheme (rowIn base scheme i) shared (now (merged .entry))) r ⌝ }
+{
+    let w = tables::width(scheme);
+    let mut i: usize = 0;
+    let mut start = base;
+    while i < count {
+        if fits_merged(cells, scheme, start, shared, merged) {
+            return i;
+        }
+        start = start + w;
+        i += 1;
+    }
+    count
+}
+
+// The first row of table t, from 0, that the row test admits; their number where it admits none. The table's cells begin at `base`.
+// A table that is present, or that shares no attribute with the set, is passed over whole.
+fn find_in(
+    cat: Catalogue,
+    cells: &[u64],
+    key: u64,
+    t: usize,
+    base: usize,
+    attrs: u64,
+    merged: &[u64; 64],
+) -> usize
+    requires { ⌜ Lawful cat (length (now cells)) × (t < cat .n) × (base ≡ firstCell cat t) × Merged cat (now cells) (at (setOf cat key)) (now merged) attrs ⌝ }
+    ensures { λ r. ⌜ FirstIn (countOf cat t) (tested cat (now (cells .entry)) key t) r ⌝ }
+{
+    let count = cat.rows[t] as usize;
+    if keys::row_of(key, t) != 0 {
+        return count;
+    }
+    let scheme = cat.schemes[t];
+    let shared = scheme & attrs;
+    if shared == 0 {
+        return count;
+    }
+    first_fit(cells, scheme, base, count, shared, merged)
+}
+
+// "A round tests rows in row order from the first. The first yes is added and a new round begins; a round without yes ends it."
+// The tests of a table that is passed over are counted all the same: the count is the rule's.
+pub fn extend(cat: Catalogue, cells: &[u64], from: u64) -> Grown
+    requires { ⌜ Lawful cat (length (now cells)) × Named cat from ⌝ }
+    ensures { λ e. ⌜ Comes cat (extension (worldOf cat (now (cells .entry))) (setOf cat from)) (e .key) (e .tests) ⌝ }
+{
+    let n = cat.n;
+    let mut merged: [u64; 64] = [0; 64];
+    let mut attrs = merge_set(cat, cells, from, &mut merged);
+    let mut key = from;
+    let mut tests: usize = 0;
+    'rounds: loop {
+        let mut base: usize = 0;
+        let mut t: usize = 0;
+        let found = loop {
+            if t == n {
+                break 'rounds;
+            }
+            let count = cat.rows[t] as usize;
+            let i = find_in(cat, cells, key, t, base, attrs, &merged);
+            if i < count {
+                let row = i + 1;
+                tests = tests + row;
+                break Row { table: t, row };
+            }
+            tests = tests + count;
+            base = base + count * tables::width(cat.schemes[t]);
+            t += 1;
+        };
+        let table = found.table;
+        attrs = merge_add(
+            cells,
+            cat.schemes[table],
+            base,
+            found.row,
+            attrs,
+            &mut merged,
+        );
+        key = keys::with_row(key, table, found.row as u64);
+    }
+    Grown { key, tests }
+}
+
+// Whether table u's row of the set has to go: it is another table's than x's, and not consistent with x. Table u's cells begin at `base`.
+// The row of x is given as a merged row, so that one comparison serves the row test and the drop.
+fn parted(
+    cat: Catalogue,
+    cells: &[u64],
+    key: u64,
+    x: Row,
+    u: usize,
+    base: usize,
+    attrs: u64,
+    merged: &[u64; 64],
+) -> bool
+    requires { ⌜ Lawful cat (length (now cells)) × Named cat key × (u < cat .n) × (base ≡ firstCell cat u) × Merged cat (now cells) (only (x .table) (x .row)) (now merged) attrs × (0 < x .row) ⌝ }
+    ensures { λ r. ⌜ r ≡ parts (worldOf cat (now (cells .entry))) (setOf cat key) (placeOf x) u ⌝ }
+{
+    if u == x.table {
+        return false;
+    }
+    let q = keys::row_of(key, u) as usize;
+    if q == 0 {
+        return false;
+    }
+    let scheme = cat.schemes[u];
+    let start = base + (q - 1) * tables::width(scheme);
+    if fits_merged(cells, scheme, start, scheme & attrs, merged) {
+        return false;
+    }
+    true
+}
+
+// "Drop from T every row of s's table other than s and every row of another table not consistent with s; add s."
+// The row comes in first, and then what does not fit it goes.
+fn kept(cat: Catalogue, cells: &[u64], key: u64, x: Row) -> u64
+    requires { ⌜ Lawful cat (length (now cells)) × Named cat key × There cat (x .table) (x .row) ⌝ }
+    ensures { λ k. ⌜ KeyFor cat (dropped (worldOf cat (now (cells .entry))) (setOf cat key) (placeOf x)) k ⌝ }
+{
+    let n = cat.n;
+    let table = x.table;
+    let row = x.row;
+    let first = tables::first_cell(cat, table);
+    let mut merged: [u64; 64] = [0; 64];
+    let attrs = merge_add(cells, cat.schemes[table], first, row, 0, &mut merged);
+    let mut all = keys::with_row(key, table, row as u64);
+    let mut base: usize = 0;
+    let mut u: usize = 0;
+    while u < n {
+        if parted(cat, cells, key, x, u, base, attrs, &merged) {
+            all = keys::with_row(all, u, 0);
+        }
+        base = base + (cat.rows[u] as usize) * tables::width(cat.schemes[u]);
+        u += 1;
+    }
+    all
+}
+
+// Whether table u's row of the set `all` joins the part, which has the attributes `attrs`.
+// Touching alone decides, so no cell is read.
+fn joins(cat: Catalogue, all: u64, part: u64, attrs: u64, u: usize) -> bool
+    requires { ⌜ Lawful cat mostCells × (u < cat .n) × Attributes cat (at (setOf cat part)) attrs ⌝ }
+    ensures { λ r. ⌜ r ≡ joinsIn cat (setOf cat all) (setOf cat part) u ⌝ }
+{
+    if keys::row_of(all, u) == 0 {
+        return false;
+    }
+    if keys::row_of(part, u) != 0 {
+        return false;
+    }
+    let shared = cat.schemes[u] & attrs;
+    if shared == 0 {
+        return false;
+    }
+    true
+}
+
+// The first table whose row of the set `all` joins the part; n where none does.
+fn first_joining(cat: Catalogue, all: u64, part: u64, attrs: u64) -> usize
+    requires { ⌜ Lawful cat mostCells × Attributes cat (at (setOf cat part)) attrs ⌝ }
+    ensures { λ r. ⌜ FirstIn (cat .n) (joinsIn cat (setOf cat all) (setOf cat part)) r ⌝ }
+{
+    let n = cat.n;
+    let mut u: usize = 0;
+    while u < n {
+        if joins(cat, all, part, attrs, u) {
+            return u;
+        }
+        u += 1;
+    }
+    n
+}
+
+// "Keep the piece that holds s": from x alone, rows of the set that touch what is there are added until there is none.
+// The order in which they come in makes no difference: there is one piece only.
+fn piece_of(cat: Catalogue, all: u64, x: Row) -> u64
+    requires { ⌜ Lawful cat mostCells × There cat (x .table) (x .row) × (at (setOf cat all) (x .table) ≡ x .row) ⌝ }
+    ensures { λ k. ⌜ ((cells : List ℕ) → KeyFor cat (piece (worldOf cat cells) (setOf cat all) (placeOf x)) k) ⌝ }
+{
+    let n = cat.n;
+    let table = x.table;
+    let row = x.row;
+    let mut part = keys::with_row(0, table, row as u64);
+    let mut attrs = cat.schemes[table];
+    loop {
+        let u = first_joining(cat, all, part, attrs);
+        if u == n {
+            return part;
+        }
+        part = keys::with_row(part, u, keys::row_of(all, u));
+        attrs = attrs | cat.schemes[u];
+    }
+}
+
+// "Trial of row s on set T: drop ..; add s; keep the piece that holds s; extend." The search is the caller's.
+pub fn trial_set(cat: Catalogue, cells: &[u64], key: u64, row: Row) -> Grown
+    requires { ⌜ Lawful cat (length (now cells)) × Named cat key × There cat (row .table) (row .row) ⌝ }
+    ensures { λ e. ⌜ Comes cat (trial (worldOf cat (now (cells .entry))) (setOf cat key) (placeOf row)) (e .key) (e .tests) ⌝ }
+{
+    let all = kept(cat, cells, key, row);
+    let part = piece_of(cat, all, row);
+    extend(cat, cells, part)
+}
