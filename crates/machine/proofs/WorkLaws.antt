@@ -109,3 +109,31 @@ module _ (cat : Catalogue) (cells row : List ℕ) where
         on e ih full f = h .fills b q e f
         on e ih damaged f = h .fails b q e f
         on e ih (done p t l) f = h .goes b q p t l e f (ih p)
+
+  -- ---- the key and the padded row
+
+  -- "Only *set* writes the padded row; otherwise the key given is 0."
+  abbrev pub RowBy : Called → Says → Type 0
+  RowBy s aSet = s .row ≡ paddedIn cat cells (s .key) row
+  RowBy s finished = (s .key ≡ 0) × (s .row ≡ row)
+  RowBy s working = (s .key ≡ 0) × (s .row ≡ row)
+  RowBy s (refused r) = (s .key ≡ 0) × (s .row ≡ row)
+
+  row-on : (t l : ℕ) (s : Called) (a : Says) → RowBy s a → RowBy (counted t l s) a
+  row-on t l s aSet h = h
+  row-on t l s finished h = h
+  row-on t l s working h = h
+  row-on t l s (refused r) h = h
+
+  pub work-row : (b : ℕ) (q : State) → RowBy (work cat cells b q row) (work cat cells b q row .says)
+  work-row =
+      by-ways (λ b q s. RowBy s (s .says))
+      (record {
+        ends = λ b q e f. (refl, refl);
+        hands = λ b q e f k. refl;
+        lost = λ b q e f k. (refl, refl);
+        spent = λ q e. (refl, refl);
+        fills = λ b q e f. (refl, refl);
+        fails = λ b q e f. (refl, refl);
+        goes = λ b q p t l e f ih. let s = work cat cells b p row in row-on t l s (s .says) ih;
+      })
