@@ -1,2 +1,4 @@
 pub mod Live
 pub mod Calls
+pub mod Opens
+pub mod Runs

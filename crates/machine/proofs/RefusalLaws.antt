@@ -175,6 +175,19 @@ module _ (cat : Catalogue) (cells keys left right : List ℕ) where
       met zero h = absurd (h refl)
       met (suc k) h = refl
 
+  -- The refusal given is the first that is met.
+  begun-says : begun cat cells keys left right .refusal ≡ 0
+  unfolding begun
+  begun-says = ⊎-elim (λ e. rw e) (λ e. rw e) (which (eqb (total cat) 0))
+
+  pub opening-says : opening cat cells keys left right .refusal ≡ openFault cat (length cells) (storeIn keys left right 0)
+  unfolding opening
+  opening-says = by (openFault cat (length cells) (storeIn keys left right 0))
+    where
+      by : (k : ℕ) → unlessRefused k (zeros keys left right) (begun cat cells keys left right) .refusal ≡ k
+      by zero = begun-says
+      by (suc k) = refl
+
   pub opening-empty : openFault cat (length cells) (storeIn keys left right 0) ≡ 0 → total cat ≡ 0
       → opening cat cells keys left right ≡ record { refusal = 0; after = zeros keys left right; tests = 0 }
   unfolding opening begun
