@@ -159,10 +159,9 @@ module _ (cat : Catalogue) (cells : List ℕ) where
       refl,
     )
 
-    -- A trial that was done, from a sound stream.
-    pub did : (c : ℕ) (q p : State) (t l : ℕ) (g : Sound c q) (e : q .next ≡ total cat → ⊥) → trialOn cat cells q ≡ done p t l
-        → Did cat cells c q (live-trial c q g e .0) p t l
-    did c q p t l g e f = let y = live-trial c q g e in subst (Comes cat cells c q (y .0)) f (tried cat cells L c q (y .0) (y .1))
+    -- A trial that was done.
+    pub did : (c : ℕ) (q p : State) (t l : ℕ) (g : Live cat cells c q) → q .next < total cat → trialOn cat cells q ≡ done p t l → Did cat cells c q g p t l
+    did c q p t l g h f = subst (Comes cat cells c q g) f (tried cat cells L c q g h)
 
     -- The rest of a call after it.
     said-on : (c b : ℕ) (row : List ℕ) (q p : State) (t l : ℕ) (s : Called) (g : Live cat cells c q) → Did cat cells c q g p t l
@@ -218,8 +217,9 @@ module _ (cat : Catalogue) (cells : List ℕ) where
               stood c (suc b) row q (refused 12) g refl (record { next = omega arith; taken = refl }, inl (refl, m));
           fails = λ b q e f g. let (live, l) = live-trial c q g e in absurd (subst (Comes cat cells c q live) f (tried cat cells L c q live l));
           goes = λ b q p t l e f ih g.
-              let d = did c q p t l g e f in
-              went-on c b row q p t l (work cat cells b p row) (live-trial c q g e .0) d (ih (inl (d .live)));
+              let (live, h) = live-trial c q g e in
+              let d = did c q p t l live h f in
+              went-on c b row q p t l (work cat cells b p row) live d (ih (inl (d .live)));
         })
         b q
 

@@ -2,3 +2,5 @@ pub mod Live
 pub mod Calls
 pub mod Opens
 pub mod Runs
+pub mod Steps
+pub mod Holding
