@@ -4,3 +4,4 @@ pub mod Opens
 pub mod Runs
 pub mod Steps
 pub mod Holding
+pub mod Demanded
