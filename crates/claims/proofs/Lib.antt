@@ -5,3 +5,4 @@ pub mod Runs
 pub mod Steps
 pub mod Holding
 pub mod Demanded
+pub mod Copies
