@@ -6,3 +6,4 @@ pub mod Steps
 pub mod Holding
 pub mod Demanded
 pub mod Copies
+pub mod Longers

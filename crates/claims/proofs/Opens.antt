@@ -34,6 +34,7 @@ module _ (cat : Catalogue) (cells : List ℕ) where
     pub list : listOf cat cells c q sound ≡ listOpen (W cat cells)
     pub taken : q .taken ≡ 0
     pub next : q .next ≡ total cat
+    pub room : roomIn (q .store) ≡ c
 
   -- The first row's set is maximal, and the rule goes on from it.
   pub first-going : 0 < total cat → Going (W cat cells) (record { sets = firstGrown cat cells .rows ∷ []; taken = 0; next = total cat })
@@ -80,6 +81,7 @@ module _ (cat : Catalogue) (cells keys left right : List ℕ) where
         list = rw (eq-eqb (length (rows (W cat cells))) 0 (rows-total cat cells ∙ z)) refl;
         taken = refl;
         next = sym z;
+        room = refl;
       }
 
   module _ (L : Lawful cat (length cells)) (h : 0 < total cat) (p : 0 < room) where
@@ -111,6 +113,7 @@ module _ (cat : Catalogue) (cells keys left right : List ℕ) where
           list = rw (ne-eqb (length (rows (W cat cells))) 0 (λ z. absurd (omega (arith, rows-total cat cells))), rows-total cat cells) refl;
           taken = refl;
           next = refl;
+          room = room-filed (storeIn keys left right 0) key;
         }
 
   pub begins : opening cat cells keys left right .refusal ≡ 0 → Lawful cat (length cells) × Begins cat cells room (opening cat cells keys left right .after)

@@ -1,0 +1,339 @@
+-- After 12, in a longer store: two streams with the same records in stores of one size show the same (`run-twin`), and a longer store follows a shorter
+-- one step by step (`run-follow`). Both by induction over the ways of a call. Assumes nothing.
+use Prim.Native.Nat.{ℕ, zero, suc, _+_, _-_, _*_, _≤_, _<_}
+use native.Mathlib.Omega.{arith}
+use native.Mathlib.Nat.{suc-add, eq-zero-or-pos}
+use mathlib.Core.Path.{_≡_, refl, sym, ap, ap₂, subst, subst₂, _∙_}
+use mathlib.Core.Logic.{_⊎_, inl, inr, ⊎-elim}
+use mathlib.Core.Bool.{Bool, true, false, cond}
+use mathlib.Core.List.{List, [], _∷_}
+use lib.ListN.{length, getD, set}
+use lib.Seq.{getD-set-same}
+use lib.Dec.{eqb}
+use borrow.Author.Tests.{eqb-true, eqb-false}
+use Rattle.keys.specs.Keys.{bitsPerRow, keyOf}
+use Rattle.tables.specs.declared.Catalogue.{Catalogue}
+use Rattle.tables.specs.Catalogues.{total}
+use Rattle.tables.specs.Checks.{Lawful}
+use Rattle.rows.specs.Named.{named}
+use Rattle.store.specs.Store.{storeIn, roomIn, filed}
+use Rattle.machine.specs.Machine.{State, keyAt, Trial, done, full, damaged, trialOn, Says, aSet, finished, working, refused, Called, answer, counted, takenOf, keyDue, unfit, callFault, unlessMet, paddedIn, work, call, Opened, zeros, firstGrown, opening}
+use Rattle.machine.specs.Runs.{Given, runOf, endedOf, handed, sum, stays, move, moves}
+use Rattle.machine.proofs.WorkLaws.{handing, work-ends, work-hands, work-lost, work-spent, work-trial, by-ways}
+use Rattle.machine.proofs.RefusalLaws.{opening-says, opening-empty, opening-begun}
+use Rattle.claims.specs.Demands.{Copy, Seen, seen, sight, made, Longers}
+use Rattle.claims.proofs.Live.{Live, Comes, tried}
+use Rattle.claims.proofs.Calls.{Sound, taken-le, live-trial, live-set, sound-fit, named-at, took, did, call-work, call-low, by-call, called}
+use Rattle.claims.proofs.Opens.{Begins, opens-iff, begins}
+use Rattle.claims.proofs.Steps.{stepsOf, steps-made, steps-counted, moves-add, move-set, move-trial}
+use Rattle.claims.proofs.Runs.{run, ended, one}
+use Rattle.claims.proofs.Copies.{copy-trans, Both, Alike, trial-copy}
+
+-- ---- two calls that show the same
+
+pub record Twin (s u : Called) : Type 0 where
+  pub says : u .says ≡ s .says
+  pub key : u .key ≡ s .key
+  pub trials : u .trials ≡ s .trials
+  pub tests : u .tests ≡ s .tests
+  pub looks : u .looks ≡ s .looks
+  pub row : u .row ≡ s .row
+  pub copy : Copy (s .after) (u .after)
+  pub rooms : roomIn (u .after .store) ≡ roomIn (s .after .store)
+
+twin-seen : (s u : Called) → Twin s u → seen u ≡ seen s
+twin-seen s u t = rw (t .says, t .key, t .trials, t .tests, t .looks, t .row, t .copy .store .found, t .copy .taken, t .copy .next) refl
+
+twin-answer : (a : Says) (q r : State) (row : List ℕ) → Copy q r → roomIn (r .store) ≡ roomIn (q .store) → Twin (answer a q row) (answer a r row)
+twin-answer a q r row c e =
+    record { says = refl; key = refl; trials = refl; tests = refl; looks = refl; row = refl; copy = c; rooms = e }
+
+twin-counted : (t l t' l' : ℕ) (s u : Called) → t' ≡ t → l' ≡ l → Twin s u → Twin (counted t l s) (counted t' l' u)
+twin-counted t l t' l' s u e f x =
+    record {
+      says = x .says;
+      key = x .key;
+      trials = ap suc (x .trials);
+      tests = ap₂ (λ (y z : ℕ). y + z) e (x .tests);
+      looks = ap₂ (λ (y z : ℕ). y + z) f (x .looks);
+      row = x .row;
+      copy = x .copy;
+      rooms = x .rooms;
+    }
+
+taken-copy : (q r : State) → Copy q r → Copy (takenOf q) (takenOf r)
+taken-copy q r c = record { store = c .store; taken = ap (λ (x : ℕ). x + 1) (c .taken); next = refl }
+
+-- ---- a trial done in a stream, and in its copy
+
+alike-done : (q r p : State) (t l : ℕ) (u : Trial) → Alike q r (done p t l) u → (p' : State) × (t' : ℕ) × (l' : ℕ) × (u ≡ done p' t' l') × Both q r p p' t l t' l'
+alike-done q r p t l (done p' t' l') x = (p', t', l', refl, x)
+alike-done q r p t l full x = absurd x
+alike-done q r p t l damaged x = absurd x
+
+alike-full : (q r : State) (u : Trial) → roomIn (r .store) ≡ roomIn (q .store) → Alike q r full u → u ≡ full
+alike-full q r (done p' t' l') e x = absurd (omega arith)
+alike-full q r full e x = refl
+alike-full q r damaged e x = absurd x
+
+module _ (cat : Catalogue) (cells : List ℕ) (L : Lawful cat (length cells)) (c : ℕ) where
+  -- What is due in a stream is due in its copy.
+  module _ (q r : State) (k : Copy q r) where
+    copy-unequal : (q .taken ≡ q .store .found → ⊥) → r .taken ≡ r .store .found → ⊥
+    copy-unequal f x = f (sym (k .taken) ∙ x ∙ k .store .found)
+
+    copy-not : (q .next ≡ total cat → ⊥) → r .next ≡ total cat → ⊥
+    copy-not e x = e (sym (k .next) ∙ x)
+
+    copy-key : q .taken < q .store .found → keyDue r ≡ keyDue q
+    copy-key l = ap (keyAt r) (k .taken) ∙ k .store .keys (q .taken) l
+
+    alike : (t : Trial) → Sound cat cells c q → (q .next ≡ total cat → ⊥) → trialOn cat cells q ≡ t → roomIn (q .store) ≤ roomIn (r .store)
+        → Alike q r t (trialOn cat cells r)
+    alike t g e f h =
+        subst (λ (x : Trial). Alike q r x (trialOn cat cells r)) f
+        (trial-copy cat cells q r k h (live-trial cat cells c q g e .0 .tree .1 .some) (taken-le cat cells c q g))
+
+  -- A trial that was done leaves a sound stream.
+  did-sound : (q p : State) (t l : ℕ) → Sound cat cells c q → (q .next ≡ total cat → ⊥) → trialOn cat cells q ≡ done p t l → Sound cat cells c p
+  did-sound q p t l g e f = let (live, h) = live-trial cat cells c q g e in inl (did cat cells L c q p t l live h f .live)
+
+  -- ---- stores of one size
+
+  work-twin : (b : ℕ) (row : List ℕ) (q r : State) → Sound cat cells c q → Copy q r → roomIn (r .store) ≡ roomIn (q .store)
+      → Twin (work cat cells b q row) (work cat cells b r row)
+  work-twin b row q r =
+      by-ways cat cells row (λ b q s. (r : State) → Sound cat cells c q → Copy q r → roomIn (r .store) ≡ roomIn (q .store) → Twin s (work cat cells b r row))
+      (record {
+        ends = λ b q e f r g k m.
+            subst (Twin (answer finished q row)) (sym (work-ends cat cells row b r (k .next ∙ e) (k .taken ∙ f ∙ sym (k .store .found)))) (twin-answer finished q r row k m);
+        hands = λ b q e f h r g k m.
+            let x = copy-key q r k (live-set cat cells c q g f .1) in
+            subst (Twin (handing cat cells row q)) (sym (work-hands cat cells row b r (k .next ∙ e) (copy-unequal q r k f) (ap (named cat) x ∙ h)))
+            (record {
+              says = refl;
+              key = x;
+              trials = refl;
+              tests = refl;
+              looks = refl;
+              row = ap (λ (j : ℕ). paddedIn cat cells j row) x;
+              copy = taken-copy q r k;
+              rooms = m;
+            });
+        lost = λ b q e f h r g k m.
+            let x = copy-key q r k (live-set cat cells c q g f .1) in
+            subst (Twin (answer (refused 14) q row)) (sym (work-lost cat cells row b r (k .next ∙ e) (copy-unequal q r k f) (ap (named cat) x ∙ h))) (twin-answer (refused 14) q r row k m);
+        spent = λ q e r g k m. subst (Twin (answer working q row)) (sym (work-spent cat cells row r (copy-not q r k e))) (twin-answer working q r row k m);
+        fills = λ b q e f r g k m.
+            let x = alike-full q r (trialOn cat cells r) m (alike q r k full g e f (omega arith)) in
+            subst (Twin (answer (refused 12) q row)) (sym (work-trial cat cells row b r full (copy-not q r k e) x)) (twin-answer (refused 12) q r row k m);
+        fails = λ b q e f r g k m. let (live, h) = live-trial cat cells c q g e in absurd (subst (Comes cat cells c q live) f (tried cat cells L c q live h));
+        goes = λ b q p t l e f ih r g k m.
+            let (p', t', l', x, y) = alike-done q r p t l (trialOn cat cells r) (alike q r k (done p t l) g e f (omega arith)) in
+            subst (Twin (counted t l (work cat cells b p row))) (sym (work-trial cat cells row b r (done p' t' l') (copy-not q r k e) x))
+            (twin-counted t l t' l' (work cat cells b p row) (work cat cells b p' row) (y .tests) (y .looks) (ih p' (did-sound q p t l g e f) (y .copy) (y .long ∙ m ∙ sym (y .short))));
+      })
+      b q r
+
+  -- A copy in a store of the same size meets the refusals that the stream meets.
+  fault-copy : (q r : State) (row : List ℕ) → Copy q r → roomIn (r .store) ≡ roomIn (q .store)
+      → callFault cat (length cells) r row ≡ callFault cat (length cells) q row
+  unfolding callFault unfit
+  fault-copy q r row k e = rw (e, k .store .found, k .taken, k .next) refl
+
+  call-twin : (b : ℕ) (row : List ℕ) (q r : State) → Sound cat cells c q → Copy q r → roomIn (r .store) ≡ roomIn (q .store)
+      → Twin (call cat cells b q row) (call cat cells b r row)
+  unfolding call
+  call-twin b row q r g k m =
+      subst (λ (n : ℕ). Twin (call cat cells b q row) (unlessMet n r row (work cat cells b r row))) (sym (fault-copy q r row k m)) (by (callFault cat (length cells) q row))
+    where
+      by : (n : ℕ) → Twin (unlessMet n q row (work cat cells b q row)) (unlessMet n r row (work cat cells b r row))
+      by zero = work-twin b row q r g k m
+      by (suc n) = twin-answer (refused (suc n)) q r row k m
+
+  pub run-twin : (gs : List Given) (q r : State) → Sound cat cells c q → Copy q r → roomIn (r .store) ≡ roomIn (q .store)
+      → (sight (run cat cells gs r) ≡ sight (run cat cells gs q)) × Copy (ended cat cells gs q) (ended cat cells gs r)
+  unfolding runOf endedOf sight
+  run-twin [] q r g k e = (refl, k)
+  run-twin (x ∷ gs) q r g k e =
+      let t = call-twin (x .budget) (x .row) q r g k e in
+      let i = run-twin gs (one cat cells x q .after) (one cat cells x r .after) (called cat cells L c (x .budget) q (x .row) g .sound) (t .copy) (t .rooms) in
+      (ap₂ (λ (y : Seen) (l : List Seen). y ∷ l) (twin-seen (one cat cells x q) (one cat cells x r) t) (i .0), i .1)
+
+  -- ---- a longer store, step by step with a shorter one
+
+  pub record Follow (q r : State) (s : Called) : Type 0 where
+    pub copy : Copy (s .after) (moves cat cells (stepsOf s) r)
+    pub short : roomIn (s .after .store) ≡ roomIn (q .store)
+    pub long : roomIn (moves cat cells (stepsOf s) r .store) ≡ roomIn (r .store)
+
+  follow-none : (a : Says) (q r : State) (row : List ℕ) → Copy q r → stepsOf (answer a q row) ≡ 0 → Follow q r (answer a q row)
+  unfolding moves
+  follow-none a q r row k e =
+      record {
+        copy = subst (λ (n : ℕ). Copy q (moves cat cells n r)) (sym e) k;
+        short = refl;
+        long = subst (λ (n : ℕ). roomIn (moves cat cells n r .store) ≡ roomIn (r .store)) (sym e) refl;
+      }
+
+  follow-set : (row : List ℕ) (q r : State) → Copy q r → move cat cells r ≡ takenOf r → Follow q r (handing cat cells row q)
+  unfolding moves
+  follow-set row q r k x = record { copy = subst (Copy (takenOf q)) (sym x) (taken-copy q r k); short = refl; long = ap (λ (p : State). roomIn (p .store)) x }
+
+  follow-trial : (q r p p' : State) (t l t' l' : ℕ) (s : Called) → Both q r p p' t l t' l' → move cat cells r ≡ p' → Follow p p' s → Follow q r (counted t l s)
+  unfolding moves
+  follow-trial q r p p' t l t' l' s y x i =
+      record {
+        copy = subst (Copy (s .after)) (sym n) (i .copy);
+        short = i .short ∙ y .short;
+        long = ap (λ (v : State). roomIn (v .store)) n ∙ i .long ∙ y .long;
+      }
+    where
+      n : moves cat cells (stepsOf (counted t l s)) r ≡ moves cat cells (stepsOf s) p'
+      n = ap (λ (j : ℕ). moves cat cells j r) (steps-counted t l s) ∙ ap (moves cat cells (stepsOf s)) x
+
+  work-follow : (b : ℕ) (row : List ℕ) (q r : State) → Sound cat cells c q → Copy q r → roomIn (q .store) ≤ roomIn (r .store)
+      → Follow q r (work cat cells b q row)
+  work-follow b row q r =
+      by-ways cat cells row (λ b q s. (r : State) → Sound cat cells c q → Copy q r → roomIn (q .store) ≤ roomIn (r .store) → Follow q r s)
+      (record {
+        ends = λ b q e f r g k m. follow-none finished q r row k refl;
+        hands = λ b q e f h r g k m.
+            let x = copy-key q r k (live-set cat cells c q g f .1) in
+            follow-set row q r k (move-set cat cells r (k .next ∙ e) (copy-unequal q r k f) (ap (named cat) x ∙ h));
+        lost = λ b q e f h r g k m. follow-none (refused 14) q r row k refl;
+        spent = λ q e r g k m. follow-none working q r row k refl;
+        fills = λ b q e f r g k m. follow-none (refused 12) q r row k refl;
+        fails = λ b q e f r g k m. follow-none (refused 14) q r row k refl;
+        goes = λ b q p t l e f ih r g k m.
+            let (p', t', l', x, y) = alike-done q r p t l (trialOn cat cells r) (alike q r k (done p t l) g e f m) in
+            follow-trial q r p p' t l t' l' (work cat cells b p row) y (move-trial cat cells r p' t' l' (copy-not q r k e) x)
+            (ih p' (did-sound q p t l g e f) (y .copy) (omega (arith, y .short, y .long)));
+      })
+      b q r
+
+  pub run-follow : (gs : List Given) (q r : State) → Sound cat cells c q → Copy q r → roomIn (q .store) ≤ roomIn (r .store)
+      → Copy (ended cat cells gs q) (moves cat cells (made (run cat cells gs q)) r)
+      × (roomIn (moves cat cells (made (run cat cells gs q)) r .store) ≡ roomIn (r .store))
+  unfolding runOf endedOf handed sum moves
+  run-follow [] q r g k e = (k, refl)
+  run-follow (x ∷ gs) q r g k e =
+      let s = one cat cells x q in
+      let f = by-call cat cells L (Follow q r) c (x .budget) q (x .row) g (λ h. work-follow (x .budget) (x .row) q r g k e) (λ h. follow-none (refused 11) q r (x .row) k refl) in
+      let i = run-follow gs (s .after) (moves cat cells (stepsOf s) r) (called cat cells L c (x .budget) q (x .row) g .sound) (f .copy) (omega (arith, f .short, f .long)) in
+      let l = run cat cells gs (s .after) in
+      let m : moves cat cells (made l) (moves cat cells (stepsOf s) r) ≡ moves cat cells (made (s ∷ l)) r =
+      sym (moves-add cat cells (stepsOf s) (made l) r) ∙ ap (λ (j : ℕ). moves cat cells j r) (steps-made s l) in
+      (subst (Copy (ended cat cells gs (s .after))) m (i .0), ap (λ (v : State). roomIn (v .store)) (sym m) ∙ i .1 ∙ f .long)
+
+  -- ---- the rule's steps keep a stream sound
+
+  move-sound : (q : State) → Sound cat cells c q → Sound cat cells c (move cat cells q)
+  unfolding move
+  move-sound q g = byNext (eqb (q .next) (total cat)) refl
+    where
+      byTaken : q .next ≡ total cat → (b : Bool) → eqb (q .taken) (q .store .found) ≡ b → Sound cat cells c (cond b q (cond (named cat (keyDue q)) (takenOf q) q))
+      byTaken e true f = g
+      byTaken e false f =
+          let (live, l) = live-set cat cells c q g (eqb-false (q .taken) (q .store .found) f) in
+          rw (named-at cat cells L c q live (q .taken) l) (inl (took cat cells L c q live e l .0))
+
+      on : (live : Live cat cells c q) (t : Trial) → Comes cat cells c q live t → Sound cat cells c (stays q t)
+      on live (done p t l) d = inl (d .live)
+      on live full d = g
+      on live damaged d = g
+
+      byNext : (b : Bool) → eqb (q .next) (total cat) ≡ b
+          → Sound cat cells c (cond b (cond (eqb (q .taken) (q .store .found)) q (cond (named cat (keyDue q)) (takenOf q) q)) (stays q (trialOn cat cells q)))
+      byNext true e = byTaken (eqb-true (q .next) (total cat) e) (eqb (q .taken) (q .store .found)) refl
+      byNext false e =
+          let (live, l) = live-trial cat cells c q g (eqb-false (q .next) (total cat) e) in
+          on live (trialOn cat cells q) (tried cat cells L c q live l)
+
+  pub moves-sound : (k : ℕ) (q : State) → Sound cat cells c q → Sound cat cells c (moves cat cells k q)
+  unfolding moves
+  moves-sound zero q g = g
+  moves-sound (suc k) q g = moves-sound k (move cat cells q) (move-sound q g)
+
+-- ---- two stores opened
+
+module _ (cat : Catalogue) (cells : List ℕ) where
+  -- The first record is the same in any two lists that have one.
+  first-cell : (k k' : List ℕ) (v : ℕ) → 0 < length k → 0 < length k' → (p : ℕ) → p < 1 → getD (set k' 0 v) p 0 ≡ getD (set k 0 v) p 0
+  first-cell k k' v a b p l = let z : p ≡ 0 = omega arith in rw z (getD-set-same k' 0 v 0 b ∙ sym (getD-set-same k 0 v 0 a))
+
+  opening-copy : (k l r k' l' r' : List ℕ) → opening cat cells k l r .refusal ≡ 0 → opening cat cells k' l' r' .refusal ≡ 0
+      → Copy (opening cat cells k l r .after) (opening cat cells k' l' r' .after)
+  unfolding filed
+  opening-copy k l r k' l' r' e e' = by (eq-zero-or-pos (total cat)) (opens-iff cat cells k l r .0 e .1) (opens-iff cat cells k' l' r' .0 e' .1)
+    where
+      by : (total cat ≡ 0) ⊎ (0 < total cat) → (0 < total cat → 0 < roomIn (storeIn k l r 0)) → (0 < total cat → 0 < roomIn (storeIn k' l' r' 0))
+          → Copy (opening cat cells k l r .after) (opening cat cells k' l' r' .after)
+      by (inl z) s s' =
+          rw (
+            opening-empty cat cells k l r (sym (opening-says cat cells k l r) ∙ e) z,
+            opening-empty cat cells k' l' r' (sym (opening-says cat cells k' l' r') ∙ e') z,
+          )
+          (record {
+            store = record { found = refl; keys = λ p b. absurd (omega arith); left = λ p b. absurd (omega arith); right = λ p b. absurd (omega arith) };
+            taken = refl;
+            next = refl;
+          })
+      by (inr h) s s' =
+          let m = s h in
+          let n = s' h in
+          rw (
+            opening-begun cat cells k l r (sym (opening-says cat cells k l r) ∙ e) h,
+            opening-begun cat cells k' l' r' (sym (opening-says cat cells k' l' r') ∙ e') h,
+          )
+          (record {
+            store = record {
+              found = refl;
+              keys = first-cell k k' (keyOf bitsPerRow (firstGrown cat cells .rows)) (omega arith) (omega arith);
+              left = first-cell l l' 0 (omega arith) (omega arith);
+              right = first-cell r r' 0 (omega arith) (omega arith);
+            };
+            taken = refl;
+            next = refl;
+          })
+
+  pub longers : Longers cat cells
+  longers k l r k' l' r' e e' h =
+      record {
+        goes = λ gs v y z hs. both gs v y z hs .0;
+        copied = λ gs v y z hs. both gs v y z hs .1;
+      }
+    where
+      q : State
+      q = opening cat cells k l r .after
+
+      q' : State
+      q' = opening cat cells k' l' r' .after
+
+      c : ℕ
+      c = roomIn (storeIn k l r 0)
+
+      c' : ℕ
+      c' = roomIn (storeIn k' l' r' 0)
+
+      L : Lawful cat (length cells)
+      L = begins cat cells k l r e .0
+
+      o : Begins cat cells c q
+      o = begins cat cells k l r e .1
+
+      o' : Begins cat cells c' q'
+      o' = begins cat cells k' l' r' e' .1
+
+      -- Where the long store has got to when the short one is left.
+      mid : List Given → State
+      mid gs = moves cat cells (made (run cat cells gs q)) q'
+
+      there : (gs : List Given) → Copy (ended cat cells gs q) (mid gs) × (roomIn (mid gs .store) ≡ roomIn (q' .store))
+      there gs = run-follow cat cells L c gs q q' (o .sound) (opening-copy k l r k' l' r' e e') (omega (arith, o .room, o' .room))
+
+      both : (gs : List Given) (v : State) → Copy (ended cat cells gs q) v → roomIn (v .store) ≡ roomIn (q' .store) → (hs : List Given)
+          → (sight (run cat cells hs v) ≡ sight (run cat cells hs (mid gs))) × Copy (ended cat cells hs (mid gs)) (ended cat cells hs v)
+      both gs v y z hs =
+          run-twin cat cells L c' hs (mid gs) v (moves-sound cat cells L c' (made (run cat cells gs q)) q' (o' .sound))
+          (copy-trans (ended cat cells gs q) (mid gs) v (there gs .0) y) (z ∙ sym (there gs .1))
