@@ -1,5 +1,5 @@
 -- After 12, in a longer store: two streams with the same records in stores of one size show the same (`run-twin`), and a longer store follows a shorter
--- one step by step (`run-follow`). Both by induction over the ways of a call. Assumes nothing.
+-- one step by step (`run-pace`). Both by induction over the ways of a call. Assumes nothing.
 use Prim.Native.Nat.{ℕ, zero, suc, _+_, _-_, _*_, _≤_, _<_}
 use native.Mathlib.Omega.{arith}
 use native.Mathlib.Nat.{suc-add, eq-zero-or-pos}
@@ -11,6 +11,7 @@ use lib.ListN.{length, getD, set}
 use lib.Seq.{getD-set-same}
 use lib.Dec.{eqb}
 use borrow.Author.Tests.{eqb-true, eqb-false}
+use Rattle.laws.proofs.TestLaws.{clash}
 use Rattle.keys.specs.Keys.{bitsPerRow, keyOf}
 use Rattle.tables.specs.declared.Catalogue.{Catalogue}
 use Rattle.tables.specs.Catalogues.{total}
@@ -18,15 +19,15 @@ use Rattle.tables.specs.Checks.{Lawful}
 use Rattle.rows.specs.Named.{named}
 use Rattle.store.specs.Store.{storeIn, roomIn, filed}
 use Rattle.machine.specs.Machine.{State, keyAt, Trial, done, full, damaged, trialOn, Says, aSet, finished, working, refused, Called, answer, counted, takenOf, keyDue, unfit, callFault, unlessMet, paddedIn, work, call, Opened, zeros, firstGrown, opening}
-use Rattle.machine.specs.Runs.{Given, runOf, endedOf, handed, sum, stays, move, moves}
+use Rattle.machine.specs.Runs.{Given, runOf, endedOf, moves}
 use Rattle.machine.proofs.WorkLaws.{handing, work-ends, work-hands, work-lost, work-spent, work-trial, by-ways}
 use Rattle.machine.proofs.RefusalLaws.{opening-says, opening-empty, opening-begun}
 use Rattle.claims.specs.Demands.{Copy, Seen, seen, sight, made, Longers}
 use Rattle.claims.proofs.Live.{Live, Comes, tried}
 use Rattle.claims.proofs.Calls.{Sound, taken-le, live-trial, live-set, sound-fit, named-at, took, did, call-work, call-low, by-call, called}
 use Rattle.claims.proofs.Opens.{Begins, opens-iff, begins}
-use Rattle.claims.proofs.Steps.{stepsOf, steps-made, steps-counted, moves-add, move-set, move-trial}
-use Rattle.claims.proofs.Runs.{run, ended, one}
+use Rattle.claims.proofs.Steps.{stepsOf, steps-made, steps-counted, run-moves}
+use Rattle.claims.proofs.Runs.{run, ended, one, still}
 use Rattle.claims.proofs.Copies.{copy-trans, Both, Alike, trial-copy}
 
 -- ---- two calls that show the same
@@ -98,6 +99,10 @@ module _ (cat : Catalogue) (cells : List ℕ) (L : Lawful cat (length cells)) (c
   did-sound : (q p : State) (t l : ℕ) → Sound cat cells c q → (q .next ≡ total cat → ⊥) → trialOn cat cells q ≡ done p t l → Sound cat cells c p
   did-sound q p t l g e f = let (live, h) = live-trial cat cells c q g e in inl (did cat cells L c q p t l live h f .live)
 
+  -- A sound stream's trial is never damaged.
+  never-damaged : (q : State) → Sound cat cells c q → (q .next ≡ total cat → ⊥) → trialOn cat cells q ≡ damaged → ⊥
+  never-damaged q g e f = let (live, h) = live-trial cat cells c q g e in subst (Comes cat cells c q live) f (tried cat cells L c q live h)
+
   -- ---- stores of one size
 
   work-twin : (b : ℕ) (row : List ℕ) (q r : State) → Sound cat cells c q → Copy q r → roomIn (r .store) ≡ roomIn (q .store)
@@ -120,14 +125,12 @@ module _ (cat : Catalogue) (cells : List ℕ) (L : Lawful cat (length cells)) (c
               copy = taken-copy q r k;
               rooms = m;
             });
-        lost = λ b q e f h r g k m.
-            let x = copy-key q r k (live-set cat cells c q g f .1) in
-            subst (Twin (answer (refused 14) q row)) (sym (work-lost cat cells row b r (k .next ∙ e) (copy-unequal q r k f) (ap (named cat) x ∙ h))) (twin-answer (refused 14) q r row k m);
+        lost = λ b q e f h r g k m. let (live, l) = live-set cat cells c q g f in absurd (clash (named-at cat cells L c q live (q .taken) l) h);
         spent = λ q e r g k m. subst (Twin (answer working q row)) (sym (work-spent cat cells row r (copy-not q r k e))) (twin-answer working q r row k m);
         fills = λ b q e f r g k m.
             let x = alike-full q r (trialOn cat cells r) m (alike q r k full g e f (omega arith)) in
             subst (Twin (answer (refused 12) q row)) (sym (work-trial cat cells row b r full (copy-not q r k e) x)) (twin-answer (refused 12) q r row k m);
-        fails = λ b q e f r g k m. let (live, h) = live-trial cat cells c q g e in absurd (subst (Comes cat cells c q live) f (tried cat cells L c q live h));
+        fails = λ b q e f r g k m. absurd (never-damaged q g e f);
         goes = λ b q p t l e f ih r g k m.
             let (p', t', l', x, y) = alike-done q r p t l (trialOn cat cells r) (alike q r k (done p t l) g e f (omega arith)) in
             subst (Twin (counted t l (work cat cells b p row))) (sym (work-trial cat cells row b r (done p' t' l') (copy-not q r k e) x))
@@ -162,98 +165,89 @@ module _ (cat : Catalogue) (cells : List ℕ) (L : Lawful cat (length cells)) (c
 
   -- ---- a longer store, step by step with a shorter one
 
-  pub record Follow (q r : State) (s : Called) : Type 0 where
-    pub copy : Copy (s .after) (moves cat cells (stepsOf s) r)
+  -- Call s on the short store, from q, and call u on the long one, from r: as many steps, and the states are copies.
+  pub record Pace (q r : State) (s u : Called) : Type 0 where
+    pub steps : stepsOf u ≡ stepsOf s
+    pub copy : Copy (s .after) (u .after)
     pub short : roomIn (s .after .store) ≡ roomIn (q .store)
-    pub long : roomIn (moves cat cells (stepsOf s) r .store) ≡ roomIn (r .store)
+    pub long : roomIn (u .after .store) ≡ roomIn (r .store)
 
-  follow-none : (a : Says) (q r : State) (row : List ℕ) → Copy q r → stepsOf (answer a q row) ≡ 0 → Follow q r (answer a q row)
-  unfolding moves
-  follow-none a q r row k e =
+  pace-none : (q r : State) (row : List ℕ) (a a' : Says) → Copy q r → stepsOf (answer a q row) ≡ 0 → stepsOf (answer a' r row) ≡ 0
+      → Pace q r (answer a q row) (answer a' r row)
+  pace-none q r row a a' k e f = record { steps = f ∙ sym e; copy = k; short = refl; long = refl }
+
+  pace-counted : (q r p p' : State) (t l t' l' : ℕ) (s u : Called) → Both q r p p' t l t' l' → Pace p p' s u → Pace q r (counted t l s) (counted t' l' u)
+  pace-counted q r p p' t l t' l' s u y i =
       record {
-        copy = subst (λ (n : ℕ). Copy q (moves cat cells n r)) (sym e) k;
-        short = refl;
-        long = subst (λ (n : ℕ). roomIn (moves cat cells n r .store) ≡ roomIn (r .store)) (sym e) refl;
-      }
-
-  follow-set : (row : List ℕ) (q r : State) → Copy q r → move cat cells r ≡ takenOf r → Follow q r (handing cat cells row q)
-  unfolding moves
-  follow-set row q r k x = record { copy = subst (Copy (takenOf q)) (sym x) (taken-copy q r k); short = refl; long = ap (λ (p : State). roomIn (p .store)) x }
-
-  follow-trial : (q r p p' : State) (t l t' l' : ℕ) (s : Called) → Both q r p p' t l t' l' → move cat cells r ≡ p' → Follow p p' s → Follow q r (counted t l s)
-  unfolding moves
-  follow-trial q r p p' t l t' l' s y x i =
-      record {
-        copy = subst (Copy (s .after)) (sym n) (i .copy);
+        steps = steps-counted t' l' u ∙ ap suc (i .steps) ∙ sym (steps-counted t l s);
+        copy = i .copy;
         short = i .short ∙ y .short;
-        long = ap (λ (v : State). roomIn (v .store)) n ∙ i .long ∙ y .long;
+        long = i .long ∙ y .long;
       }
-    where
-      n : moves cat cells (stepsOf (counted t l s)) r ≡ moves cat cells (stepsOf s) p'
-      n = ap (λ (j : ℕ). moves cat cells j r) (steps-counted t l s) ∙ ap (moves cat cells (stepsOf s)) x
 
-  work-follow : (b : ℕ) (row : List ℕ) (q r : State) → Sound cat cells c q → Copy q r → roomIn (q .store) ≤ roomIn (r .store)
-      → Follow q r (work cat cells b q row)
-  work-follow b row q r =
-      by-ways cat cells row (λ b q s. (r : State) → Sound cat cells c q → Copy q r → roomIn (q .store) ≤ roomIn (r .store) → Follow q r s)
+  -- The long store, given as many trials as the short one made.
+  work-pace : (b : ℕ) (row : List ℕ) (q r : State) → Sound cat cells c q → Copy q r → roomIn (q .store) ≤ roomIn (r .store)
+      → Pace q r (work cat cells b q row) (work cat cells (work cat cells b q row .trials) r row)
+  work-pace b row q r =
+      by-ways cat cells row
+      (λ b q s. (r : State) → Sound cat cells c q → Copy q r → roomIn (q .store) ≤ roomIn (r .store) → Pace q r s (work cat cells (s .trials) r row))
       (record {
-        ends = λ b q e f r g k m. follow-none finished q r row k refl;
+        ends = λ b q e f r g k m.
+            subst (Pace q r (answer finished q row)) (sym (work-ends cat cells row 0 r (k .next ∙ e) (k .taken ∙ f ∙ sym (k .store .found))))
+            (pace-none q r row finished finished k refl refl);
         hands = λ b q e f h r g k m.
             let x = copy-key q r k (live-set cat cells c q g f .1) in
-            follow-set row q r k (move-set cat cells r (k .next ∙ e) (copy-unequal q r k f) (ap (named cat) x ∙ h));
-        lost = λ b q e f h r g k m. follow-none (refused 14) q r row k refl;
-        spent = λ q e r g k m. follow-none working q r row k refl;
-        fills = λ b q e f r g k m. follow-none (refused 12) q r row k refl;
-        fails = λ b q e f r g k m. follow-none (refused 14) q r row k refl;
+            subst (Pace q r (handing cat cells row q)) (sym (work-hands cat cells row 0 r (k .next ∙ e) (copy-unequal q r k f) (ap (named cat) x ∙ h)))
+            (record { steps = refl; copy = taken-copy q r k; short = refl; long = refl });
+        lost = λ b q e f h r g k m. let (live, l) = live-set cat cells c q g f in absurd (clash (named-at cat cells L c q live (q .taken) l) h);
+        spent = λ q e r g k m.
+            subst (Pace q r (answer working q row)) (sym (work-spent cat cells row r (copy-not q r k e))) (pace-none q r row working working k refl refl);
+        fills = λ b q e f r g k m.
+            subst (Pace q r (answer (refused 12) q row)) (sym (work-spent cat cells row r (copy-not q r k e))) (pace-none q r row (refused 12) working k refl refl);
+        fails = λ b q e f r g k m. absurd (never-damaged q g e f);
         goes = λ b q p t l e f ih r g k m.
             let (p', t', l', x, y) = alike-done q r p t l (trialOn cat cells r) (alike q r k (done p t l) g e f m) in
-            follow-trial q r p p' t l t' l' (work cat cells b p row) y (move-trial cat cells r p' t' l' (copy-not q r k e) x)
-            (ih p' (did-sound q p t l g e f) (y .copy) (omega (arith, y .short, y .long)));
+            let s = work cat cells b p row in
+            subst (Pace q r (counted t l s)) (sym (work-trial cat cells row (s .trials) r (done p' t' l') (copy-not q r k e) x))
+            (pace-counted q r p p' t l t' l' s (work cat cells (s .trials) p' row) y (ih p' (did-sound q p t l g e f) (y .copy) (omega (arith, y .short, y .long))));
       })
       b q r
 
-  pub run-follow : (gs : List Given) (q r : State) → Sound cat cells c q → Copy q r → roomIn (q .store) ≤ roomIn (r .store)
-      → Copy (ended cat cells gs q) (moves cat cells (made (run cat cells gs q)) r)
-      × (roomIn (moves cat cells (made (run cat cells gs q)) r .store) ≡ roomIn (r .store))
-  unfolding runOf endedOf handed sum moves
-  run-follow [] q r g k e = (k, refl)
-  run-follow (x ∷ gs) q r g k e =
+module _ (cat : Catalogue) (cells : List ℕ) (L : Lawful cat (length cells)) (c c' : ℕ) where
+  -- Call x on the short store, and the same with as many trials as it made on the long one.
+  abbrev paced : Given → State → Given
+  paced x q = record { budget = one cat cells x q .trials; row = x .row }
+
+  call-pace : (x : Given) (q r : State) → Sound cat cells c q → Sound cat cells c' r → Copy q r → roomIn (q .store) ≤ roomIn (r .store)
+      → Pace cat cells L c q r (one cat cells x q) (one cat cells (paced x q) r)
+  call-pace x q r g h k m =
+      by-call cat cells L (λ s. Pace cat cells L c q r s (call cat cells (s .trials) r (x .row))) c (x .budget) q (x .row) g
+      (λ l. rw (call-work cat cells L c' (work cat cells (x .budget) q (x .row) .trials) r (x .row) h l) (work-pace cat cells L c (x .budget) (x .row) q r g k m))
+      (λ l. rw (call-low cat cells L c' 0 r (x .row) h l) (pace-none cat cells L c q r (x .row) (refused 11) (refused 11) k refl refl))
+
+  -- What calls gs have come to on the short store, some calls es come to on the long one.
+  pub record Paced (gs : List Given) (q r : State) (es : List Given) : Type 0 where
+    pub steps : made (run cat cells es r) ≡ made (run cat cells gs q)
+    pub copy : Copy (ended cat cells gs q) (ended cat cells es r)
+    pub long : roomIn (ended cat cells es r .store) ≡ roomIn (r .store)
+
+  pub run-pace : (gs : List Given) (q r : State) → Sound cat cells c q → Sound cat cells c' r → Copy q r → roomIn (q .store) ≤ roomIn (r .store)
+      → (es : List Given) × Paced gs q r es
+  unfolding runOf endedOf
+  run-pace [] q r g h k m = ([], record { steps = refl; copy = k; long = refl })
+  run-pace (x ∷ gs) q r g h k m =
       let s = one cat cells x q in
-      let f = by-call cat cells L (Follow q r) c (x .budget) q (x .row) g (λ h. work-follow (x .budget) (x .row) q r g k e) (λ h. follow-none (refused 11) q r (x .row) k refl) in
-      let i = run-follow gs (s .after) (moves cat cells (stepsOf s) r) (called cat cells L c (x .budget) q (x .row) g .sound) (f .copy) (omega (arith, f .short, f .long)) in
-      let l = run cat cells gs (s .after) in
-      let m : moves cat cells (made l) (moves cat cells (stepsOf s) r) ≡ moves cat cells (made (s ∷ l)) r =
-      sym (moves-add cat cells (stepsOf s) (made l) r) ∙ ap (λ (j : ℕ). moves cat cells j r) (steps-made s l) in
-      (subst (Copy (ended cat cells gs (s .after))) m (i .0), ap (λ (v : State). roomIn (v .store)) (sym m) ∙ i .1 ∙ f .long)
-
-  -- ---- the rule's steps keep a stream sound
-
-  move-sound : (q : State) → Sound cat cells c q → Sound cat cells c (move cat cells q)
-  unfolding move
-  move-sound q g = byNext (eqb (q .next) (total cat)) refl
-    where
-      byTaken : q .next ≡ total cat → (b : Bool) → eqb (q .taken) (q .store .found) ≡ b → Sound cat cells c (cond b q (cond (named cat (keyDue q)) (takenOf q) q))
-      byTaken e true f = g
-      byTaken e false f =
-          let (live, l) = live-set cat cells c q g (eqb-false (q .taken) (q .store .found) f) in
-          rw (named-at cat cells L c q live (q .taken) l) (inl (took cat cells L c q live e l .0))
-
-      on : (live : Live cat cells c q) (t : Trial) → Comes cat cells c q live t → Sound cat cells c (stays q t)
-      on live (done p t l) d = inl (d .live)
-      on live full d = g
-      on live damaged d = g
-
-      byNext : (b : Bool) → eqb (q .next) (total cat) ≡ b
-          → Sound cat cells c (cond b (cond (eqb (q .taken) (q .store .found)) q (cond (named cat (keyDue q)) (takenOf q) q)) (stays q (trialOn cat cells q)))
-      byNext true e = byTaken (eqb-true (q .next) (total cat) e) (eqb (q .taken) (q .store .found)) refl
-      byNext false e =
-          let (live, l) = live-trial cat cells c q g (eqb-false (q .next) (total cat) e) in
-          on live (trialOn cat cells q) (tried cat cells L c q live l)
-
-  pub moves-sound : (k : ℕ) (q : State) → Sound cat cells c q → Sound cat cells c (moves cat cells k q)
-  unfolding moves
-  moves-sound zero q g = g
-  moves-sound (suc k) q g = moves-sound k (move cat cells q) (move-sound q g)
+      let u = one cat cells (paced x q) r in
+      let f = call-pace x q r g h k m in
+      let i = run-pace gs (s .after) (u .after) (called cat cells L c (x .budget) q (x .row) g .sound) (called cat cells L c' (s .trials) r (x .row) h .sound) (f .copy) (omega (arith, f .short, f .long)) in
+      (
+        paced x q ∷ i .0,
+        record {
+          steps = sym (steps-made u (run cat cells (i .0) (u .after))) ∙ ap₂ (λ (y z : ℕ). y + z) (f .steps) (i .1 .steps) ∙ steps-made s (run cat cells gs (s .after));
+          copy = i .1 .copy;
+          long = i .1 .long ∙ f .long;
+        },
+      )
 
 -- ---- two stores opened
 
@@ -300,8 +294,9 @@ module _ (cat : Catalogue) (cells : List ℕ) where
   pub longers : Longers cat cells
   longers k l r k' l' r' e e' h =
       record {
-        goes = λ gs v y z hs. both gs v y z hs .0;
-        copied = λ gs v y z hs. both gs v y z hs .1;
+        reached = λ gs. (paces gs .0, paces gs .1 .steps);
+        goes = λ gs es m v y z hs. both gs es m v y z hs .0;
+        copied = λ gs es m v y z hs. both gs es m v y z hs .1;
       }
     where
       q : State
@@ -325,15 +320,22 @@ module _ (cat : Catalogue) (cells : List ℕ) where
       o' : Begins cat cells c' q'
       o' = begins cat cells k' l' r' e' .1
 
-      -- Where the long store has got to when the short one is left.
-      mid : List Given → State
-      mid gs = moves cat cells (made (run cat cells gs q)) q'
+      paces : (gs : List Given) → (es : List Given) × Paced cat cells L c c' gs q q' es
+      paces gs = run-pace cat cells L c c' gs q q' (o .sound) (o' .sound) (opening-copy k l r k' l' r' e e') (omega (arith, o .room, o' .room))
 
-      there : (gs : List Given) → Copy (ended cat cells gs q) (mid gs) × (roomIn (mid gs .store) ≡ roomIn (q' .store))
-      there gs = run-follow cat cells L c gs q q' (o .sound) (opening-copy k l r k' l' r' e e') (omega (arith, o .room, o' .room))
+      -- As many steps bring the long store to one state, by whatever calls.
+      meet : (gs es : List Given) → made (run cat cells es q') ≡ made (run cat cells gs q) → ended cat cells (paces gs .0) q' ≡ ended cat cells es q'
+      meet gs es m =
+          run-moves cat cells (paces gs .0) q' .state
+          ∙ ap (λ (n : ℕ). moves cat cells n q') (paces gs .1 .steps ∙ sym m)
+          ∙ sym (run-moves cat cells es q' .state)
 
-      both : (gs : List Given) (v : State) → Copy (ended cat cells gs q) v → roomIn (v .store) ≡ roomIn (q' .store) → (hs : List Given)
-          → (sight (run cat cells hs v) ≡ sight (run cat cells hs (mid gs))) × Copy (ended cat cells hs (mid gs)) (ended cat cells hs v)
-      both gs v y z hs =
-          run-twin cat cells L c' hs (mid gs) v (moves-sound cat cells L c' (made (run cat cells gs q)) q' (o' .sound))
-          (copy-trans (ended cat cells gs q) (mid gs) v (there gs .0) y) (z ∙ sym (there gs .1))
+      both : (gs es : List Given) → made (run cat cells es q') ≡ made (run cat cells gs q) → (v : State) → Copy (ended cat cells gs q) v
+          → roomIn (v .store) ≡ roomIn (q' .store) → (hs : List Given)
+          → (sight (run cat cells hs v) ≡ sight (run cat cells hs (ended cat cells es q'))) × Copy (ended cat cells hs (ended cat cells es q')) (ended cat cells hs v)
+      both gs es m v y z hs =
+          let d = paces gs .1 in
+          let p = ended cat cells es q' in
+          let f : Copy (ended cat cells gs q) p = subst (Copy (ended cat cells gs q)) (meet gs es m) (d .copy) in
+          run-twin cat cells L c' hs p v (still cat cells L c' es q' (o' .sound)) (copy-trans (ended cat cells gs q) p v f y)
+          (z ∙ sym (d .long) ∙ ap (λ (x : State). roomIn (x .store)) (meet gs es m))

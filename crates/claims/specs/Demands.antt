@@ -185,12 +185,17 @@ pub record Copy (q r : State) : Type 0 where
   pub next : r .next ≡ q .next
 
 -- "After 12 the caller may copy the records to a longer store and go on", as if it had been that long from the start. q is what open gave on the short
--- store, q' what it gave on the long one, r the copy after calls gs: it goes on as the long one does after as many steps of the rule.
-pub record Longer (cat : Catalogue) (cells : List ℕ) (step : ℕ → State → List ℕ → Called) (q q' : State) : Type 0 where
-  pub goes : (gs : List Given) (r : State) → Copy (endedOf step gs q) r → roomIn (r .store) ≡ roomIn (q' .store)
-      → (hs : List Given) → sight (runOf step hs r) ≡ sight (runOf step hs (moves cat cells (made (runOf step gs q)) q'))
-  pub copied : (gs : List Given) (r : State) → Copy (endedOf step gs q) r → roomIn (r .store) ≡ roomIn (q' .store)
-      → (hs : List Given) → Copy (endedOf step hs (moves cat cells (made (runOf step gs q)) q')) (endedOf step hs r)
+-- store, q' what it gave on the long one, r the copy after the calls gs.
+pub record Longer (step : ℕ → State → List ℕ → Called) (q q' : State) : Type 0 where
+  -- The long store gets as far, in trials and sets, as the short one got;
+  pub reached : (gs : List Given) → (es : List Given) × (made (runOf step es q') ≡ made (runOf step gs q))
+  -- by whatever calls es it got there, the copy goes on as it does, and stays its copy.
+  pub goes : (gs es : List Given) → made (runOf step es q') ≡ made (runOf step gs q)
+      → (r : State) → Copy (endedOf step gs q) r → roomIn (r .store) ≡ roomIn (q' .store)
+      → (hs : List Given) → sight (runOf step hs r) ≡ sight (runOf step hs (endedOf step es q'))
+  pub copied : (gs es : List Given) → made (runOf step es q') ≡ made (runOf step gs q)
+      → (r : State) → Copy (endedOf step gs q) r → roomIn (r .store) ≡ roomIn (q' .store)
+      → (hs : List Given) → Copy (endedOf step hs (endedOf step es q')) (endedOf step hs r)
 
 -- ---- all together, of the stream of document 01
 
@@ -212,4 +217,4 @@ module _ (cat : Catalogue) (cells : List ℕ) where
   Longers =
       (keys left right keys' left' right' : List ℕ) → opening cat cells keys left right .refusal ≡ 0 → opening cat cells keys' left' right' .refusal ≡ 0
       → roomIn (storeIn keys left right 0) ≤ roomIn (storeIn keys' left' right' 0)
-      → Longer cat cells (call cat cells) (opening cat cells keys left right .after) (opening cat cells keys' left' right' .after)
+      → Longer (call cat cells) (opening cat cells keys left right .after) (opening cat cells keys' left' right' .after)
