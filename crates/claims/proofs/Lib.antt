@@ -7,3 +7,4 @@ pub mod Holding
 pub mod Demanded
 pub mod Copies
 pub mod Longers
+pub mod Frauds

@@ -239,8 +239,7 @@ module _ (cat : Catalogue) (cells : List ℕ) (L : Lawful cat (length cells)) (c
       let s = one cat cells x q in
       let u = one cat cells (paced x q) r in
       let f = call-pace x q r g h k m in
-      let i = run-pace gs (s .after) (u .after) (called cat cells L c (x .budget) q (x .row) g .sound) (called cat cells L c' (s .trials) r (x .row) h .sound) (f .copy) (omega (arith, f .short, f .long)) in
-      (
+      let i = run-pace gs (s .after) (u .after) (called cat cells L c (x .budget) q (x .row) g .sound) (called cat cells L c' (s .trials) r (x .row) h .sound) (f .copy) (omega (arith, f .short, f .long)) in (
         paced x q ∷ i .0,
         record {
           steps = sym (steps-made u (run cat cells (i .0) (u .after))) ∙ ap₂ (λ (y z : ℕ). y + z) (f .steps) (i .1 .steps) ∙ steps-made s (run cat cells gs (s .after));

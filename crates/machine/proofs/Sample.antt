@@ -40,7 +40,7 @@ unfoldable pub first : ℕ → Opened
 first c = opening three threeCells (replicate c 0) (replicate c 0) (replicate c 0)
 
 -- "tables 3 3 6 14"
-open-says : (first 4 .refusal ≡ 0) × (first 4 .tests ≡ 14)
+pub open-says : (first 4 .refusal ≡ 0) × (first 4 .tests ≡ 14)
 unfolding three threeCells first opening openFault begun catalogueFault sizeFault tablesFault tableFault badScheme countFault firstCell rowStart rowsBefore touchesIn fitsIn sharing matching same bitOf ones filed keyOf extension grow walk rowTest near agrees absent member rowsBelow rowsTo alone any all
 open-says = (refl, refl)
 
