@@ -44,9 +44,9 @@ refusal-open r (inr e) = subst Refuses e refl
 module _ (cat : Catalogue) (cells : List ℕ) where
   -- ---- "One refuses every table set: demand 1, by the exact conditions above."
 
-  pub open-refuses : (begin : List ℕ → List ℕ → List ℕ → Opened) → ((k l r : List ℕ) → begin k l r .refusal ≡ 0 → ⊥) → Lawful cat (length cells)
-      → Demand1 cat cells begin → ⊥
-  open-refuses begin h L d = let one : List ℕ = 0 ∷ [] in h one one one (d .opens one one one .1 (L, λ n. omega arith))
+  pub open-refuses : (begin : List ℕ → List ℕ → List ℕ → Opened) (step : ℕ → State → List ℕ → Called)
+      → ((k l r : List ℕ) → begin k l r .refusal ≡ 0 → ⊥) → Lawful cat (length cells) → Demand1 cat cells begin step → ⊥
+  open-refuses begin step h L d = let one : List ℕ = 0 ∷ [] in h one one one (d .opens one one one .1 (L, λ n. omega arith))
 
   -- The same of its calls.
   pub call-refuses : (step : ℕ → State → List ℕ → Called) → ((b : ℕ) (p : State) (row : List ℕ) → (r : ℕ) × (step b p row .says ≡ refused r))

@@ -1,6 +1,7 @@
 pub mod Live
 pub mod Calls
 pub mod Opens
+pub mod Exact
 pub mod Runs
 pub mod Steps
 pub mod Holding

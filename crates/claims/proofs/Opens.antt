@@ -1,4 +1,4 @@
--- What open gives: demand 1 of it, and a sound stream to begin with. Assumes nothing.
+-- What open gives: where it refuses, and a sound stream to begin with where it does not. Assumes nothing.
 use Prim.Native.Nat.{ℕ, zero, suc, _+_, _≤_, _<_}
 use native.Mathlib.Omega.{arith}
 use native.Mathlib.Nat.{eq-zero-or-pos}
@@ -23,7 +23,7 @@ use Rattle.store.specs.Store.{storeIn, roomIn, filed}
 use Rattle.store.proofs.StoreLaws.{started, room-filed}
 use Rattle.machine.specs.Machine.{State, zeros, Opened, openFault, firstGrown, opening}
 use Rattle.machine.proofs.RefusalLaws.{open-catalogue, open-full, open-free, open-clear, opening-refused, opening-says, opening-empty, opening-begun}
-use Rattle.claims.specs.Demands.{Demand1, OpenFull}
+use Rattle.claims.specs.Demands.{OpenFull}
 use Rattle.claims.proofs.Live.{W, Live, maximal-named}
 use Rattle.claims.proofs.Calls.{Empty, Sound, listOf}
 
@@ -126,20 +126,9 @@ module _ (cat : Catalogue) (cells keys left right : List ℕ) where
       by L s (inl z) = rw (opening-empty cat cells keys left right free z) (begins-empty z)
       by L s (inr h) = rw (opening-begun cat cells keys left right free h) (begins-live L h (s h))
 
--- ---- demand 1, and 12
+-- ---- 12
 
 module _ (cat : Catalogue) (cells : List ℕ) where
-  pub demand1 : Demand1 cat cells (opening cat cells)
-  demand1 =
-      record {
-        opens = opens-iff cat cells;
-        faults = λ k l r h. opening-says cat cells k l r ∙ open-catalogue cat (length cells) (storeIn k l r 0) h;
-        full = full-iff cat cells;
-        nothing = λ k l r h.
-            let e = opening-refused cat cells k l r (openFault cat (length cells) (storeIn k l r 0)) refl (λ z. h (opening-says cat cells k l r ∙ z)) in
-            (ap (λ (x : Opened). x .after) e, ap (λ (x : Opened). x .tests) e);
-      }
-
   -- There is a maximal set exactly where there is a row.
   some-set : (0 < total cat) ↔ MoreThan (W cat cells) 0
   some-set = (

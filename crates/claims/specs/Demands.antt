@@ -17,21 +17,30 @@ use Rattle.disjunction.specs.Keeping.{listOpen, listMoves, testsIn}
 use Rattle.rows.specs.World.{cellsIn, worldOf, setOf}
 use Rattle.store.specs.Store.{Store, storeIn, roomIn}
 use Rattle.store.specs.Store as Store
-use Rattle.machine.specs.Machine.{State, keyAt, deepest, Says, aSet, finished, working, refused, Called, Fit, call, zeros, Opened, opening}
+use Rattle.machine.specs.Machine.{State, keyAt, deepest, Says, aSet, finished, working, refused, Called, answer, Fit, callFault, call, zeros, Opened, opening}
 use Rattle.machine.specs.Runs.{Given, runOf, endedOf, handed, sum, moves, looksIn}
 
--- ---- demand 1, of open
+-- ---- demand 1: the refusals, "by the exact conditions above"
 
--- "One refuses every table set: demand 1, by the exact conditions above." Open gives no refusal exactly where the catalogue has no fault and, if there
--- is a row, the store a record; its other refusals are the catalogue's, and 12 where only the record is missing; refused, it has changed nothing.
-pub record Demand1 (cat : Catalogue) (cells : List ℕ) (begin : List ℕ → List ℕ → List ℕ → Opened) : Type 0 where
+pub record Demand1 (cat : Catalogue) (cells : List ℕ) (begin : List ℕ → List ℕ → List ℕ → Opened) (step : ℕ → State → List ℕ → Called) : Type 0 where
+  -- Open refuses nothing exactly where the catalogue has no fault and the store, if there is a row, a record;
   pub opens : (keys left right : List ℕ)
       → (begin keys left right .refusal ≡ 0) ↔ (Lawful cat (length cells) × (0 < total cat → 0 < roomIn (storeIn keys left right 0)))
+  -- else its refusal is the catalogue's, or 12 where only the record is missing.
   pub faults : (keys left right : List ℕ) → (catalogueFault cat (length cells) ≡ 0 → ⊥) → begin keys left right .refusal ≡ catalogueFault cat (length cells)
   pub full : (keys left right : List ℕ) → Lawful cat (length cells)
       → (begin keys left right .refusal ≡ 12) ↔ ((0 < total cat) × (roomIn (storeIn keys left right 0) ≡ 0))
-  pub nothing : (keys left right : List ℕ) → (begin keys left right .refusal ≡ 0 → ⊥)
+  -- "Refused, it gives a record of zeros and writes nothing."
+  pub zeroed : (keys left right : List ℕ) → (begin keys left right .refusal ≡ 0 → ⊥)
       → (begin keys left right .after ≡ zeros keys left right) × (begin keys left right .tests ≡ 0)
+  -- A call, whatever the record and the store: "checks the catalogue as open does, then 13, then 11. These change nothing"; "the counts are 0";
+  pub refuses : (b : ℕ) (q : State) (row : List ℕ) → (callFault cat (length cells) q row ≡ 0 → ⊥)
+      → step b q row ≡ answer (refused (callFault cat (length cells) q row)) q row
+  -- where the catalogue has no fault, the record fits and the row is long enough, "12 and 14 may then be met", and no other.
+  pub works : (b : ℕ) (q : State) (row : List ℕ) → Lawful cat (length cells) → Fit cat q → cat .m ≤ length row
+      → (r : ℕ) → step b q row .says ≡ refused r → (r ≡ 12) ⊎ (r ≡ 14)
+  -- "Only *set* writes the padded row; otherwise the key given is 0."
+  pub quiet : (b : ℕ) (q : State) (row : List ℕ) → (step b q row .says ≡ aSet → ⊥) → (step b q row .key ≡ 0) × (step b q row .row ≡ row)
 
 -- ---- words
 
