@@ -2,6 +2,7 @@
 use Prim.Native.Nat.{ℕ, zero, suc, _+_, _-_, _*_, _≤_, _<_}
 use native.Mathlib.Omega.{arith}
 use mathlib.Core.Path.{_≡_, refl, sym, ap, ap₂, subst, _∙_}
+use mathlib.Core.Logic.{_⊎_, inl, inr}
 use mathlib.Core.Bool.{Bool, true, false, cond}
 use mathlib.Core.List.{List}
 use lib.Dec.{ltb}
@@ -35,25 +36,19 @@ copy-trans e m r a b =
       next = b .next ∙ sym (a .next);
     }
 
--- A trial done in both: the counts are the same, the states are copies, and neither store has changed its size.
-pub record Both (q r p p' : State) (t l t' l' : ℕ) : Type 0 where
-  pub copy : Copy p p'
-  pub tests : t' ≡ t
-  pub looks : l' ≡ l
+-- The trial on q was done and left p; that on its copy r comes to u, with the same counts: the states are copies, and neither store changed its size.
+pub record Also (q r p : State) (t l : ℕ) (u : Trial) : Type 0 where
+  pub state : State
+  pub it : u ≡ done state t l
+  pub copy : Copy p state
   pub short : roomIn (p .store) ≡ roomIn (q .store)
-  pub long : roomIn (p' .store) ≡ roomIn (r .store)
+  pub long : roomIn (state .store) ≡ roomIn (r .store)
 
--- The trial on q, and that on its copy r.
+-- What the trial on r comes to, by what that on q does.
 abbrev pub Alike : State → State → Trial → Trial → Type 0
-Alike q r (done p t l) (done p' t' l') = Both q r p p' t l t' l'
-Alike q r (done p t l) full = ⊥
-Alike q r (done p t l) damaged = ⊥
-Alike q r full (done p' t' l') = roomIn (q .store) < roomIn (r .store)
-Alike q r full full = _≡_ {A = ℕ} 0 0
-Alike q r full damaged = ⊥
-Alike q r damaged (done p' t' l') = ⊥
-Alike q r damaged full = ⊥
-Alike q r damaged damaged = _≡_ {A = ℕ} 0 0
+Alike q r (done p t l) u = Also q r p t l u
+Alike q r full u = (u ≡ full) ⊎ (roomIn (q .store) < roomIn (r .store))
+Alike q r damaged u = u ≡ damaged
 
 module _ (q r : State) (c : Copy q r) (h : roomIn (q .store) ≤ roomIn (r .store)) (some : 0 < q .store .found) (key tests : ℕ) where
   raise : {s u : Store.Store} → Store.Copy s u → Copy (raised q s) (raised r u)
@@ -68,50 +63,54 @@ module _ (q r : State) (c : Copy q r) (h : roomIn (q .store) ≤ roomIn (r .stor
       let u = ltb-true (q .store .found) (roomIn (q .store)) e in
       let v = ltb-true (r .store .found) (roomIn (r .store)) f in
       record {
+        state = raised r (added (r .store) key p s);
+        it = refl;
         copy = raise (copy-added (q .store) (r .store) key p s (c .store) l u v);
-        tests = refl;
-        looks = refl;
         short = room-added (q .store) key p s;
         long = room-added (r .store) key p s;
       }
   byRoom p s n l true false e f =
       absurd (omega (arith, ltb-true (q .store .found) (roomIn (q .store)) e, ltb-false (r .store .found) (roomIn (r .store)) f, c .store .found))
   byRoom p s n l false true e f =
-      omega (arith, ltb-false (q .store .found) (roomIn (q .store)) e, ltb-true (r .store .found) (roomIn (r .store)) f, c .store .found)
-  byRoom p s n l false false e f = refl
+      inr (omega (arith, ltb-false (q .store .found) (roomIn (q .store)) e, ltb-true (r .store .found) (roomIn (r .store)) f, c .store .found))
+  byRoom p s n l false false e f = inl refl
 
-  byLooked : (a : Looked) → ((p : ℕ) (s : Bool) (n : ℕ) → a ≡ Absent p s n → p < q .store .found) → Alike q r (placed q tests (answerOf (q .store) a) (storeAfter (q .store) key a))
-      (placed r tests (answerOf (r .store) a) (storeAfter (r .store) key a))
+  byLooked : (a : Looked) → ((p : ℕ) (s : Bool) (n : ℕ) → a ≡ Absent p s n → p < q .store .found)
+      → Alike q r (placed q tests (answerOf (q .store) a) (storeAfter (q .store) key a)) (placed r tests (answerOf (r .store) a) (storeAfter (r .store) key a))
   unfolding placed answerOf storeAfter
-  byLooked (Found p n) i = record { copy = raise (c .store); tests = refl; looks = refl; short = refl; long = refl }
-  byLooked (Absent p s n) i = byRoom p s n (i p s n refl) (ltb (q .store .found) (roomIn (q .store))) (ltb (r .store .found) (roomIn (r .store))) refl refl
+  byLooked (Found p n) i = record { state = raised r (r .store); it = refl; copy = raise (c .store); short = refl; long = refl }
+  byLooked (Absent p s n) i =
+      byRoom p s n (i p s n refl) (ltb (q .store .found) (roomIn (q .store))) (ltb (r .store .found) (roomIn (r .store))) refl refl
   byLooked (Damaged n) i = refl
 
   -- The same key offered to both.
   pub offer-copy : (deepest : ℕ) → Alike q r (offered deepest q key tests) (offered deepest r key tests)
   unfolding offered
-  offer-copy deepest = rw (copy-search (q .store) (r .store) key deepest (c .store) some) (byLooked (searchOf (q .store) key deepest) (λ p s n e. Laws.placed (q .store) key deepest some (sym e)))
+  offer-copy deepest =
+      rw (copy-search (q .store) (r .store) key deepest (c .store) some)
+      (byLooked (searchOf (q .store) key deepest) (λ p s n e. Laws.placed (q .store) key deepest some (sym e)))
 
 module _ (cat : Catalogue) (cells : List ℕ) where
   pub trial-copy : (q r : State) → Copy q r → roomIn (q .store) ≤ roomIn (r .store) → 0 < q .store .found → q .taken ≤ q .store .found
       → Alike q r (trialOn cat cells q) (trialOn cat cells r)
   unfolding trialOn
-  trial-copy q r c h some b =
-      subst (Alike q r (trialOn cat cells q)) (sym same) (by (named cat k))
+  trial-copy q r c h some b = subst (Alike q r (trialOn cat cells q)) (sym same) (by (named cat k))
     where
       k : ℕ
       k = keyAt q (q .taken - 1)
 
-      g : Grown
-      g = trialDue cat cells q
+      -- The trial in state v, of the row at place j on the set of key x.
+      at : State → ℕ → ℕ → Trial
+      at v x j =
+          let g = trial (worldOf cat cells) (setOf cat x) (rowAt (worldOf cat cells) j) in
+          offered (deepest cat) v (keyOf bitsPerRow (g .rows)) (g .tests)
 
       -- The copy is tried on the same set with the same row.
-      same : trialOn cat cells r ≡ cond (named cat k) (offered (deepest cat) r (keyOf bitsPerRow (g .rows)) (g .tests)) damaged
+      same : trialOn cat cells r ≡ cond (named cat k) (at r k (q .next)) damaged
       same =
-          ap₂ (λ (x j : ℕ). let u = trial (worldOf cat cells) (setOf cat x) (rowAt (worldOf cat cells) j) in cond (named cat x) (offered (deepest cat) r (keyOf bitsPerRow (u .rows)) (u .tests)) damaged)
+          ap₂ (λ (x j : ℕ). cond (named cat x) (at r x j) damaged)
           (ap (λ (x : ℕ). keyAt r (x - 1)) (c .taken) ∙ c .store .keys (q .taken - 1) (omega arith)) (c .next)
 
-      by : (y : Bool)
-          → Alike q r (cond y (offered (deepest cat) q (keyOf bitsPerRow (g .rows)) (g .tests)) damaged) (cond y (offered (deepest cat) r (keyOf bitsPerRow (g .rows)) (g .tests)) damaged)
-      by true = offer-copy q r c h some (keyOf bitsPerRow (g .rows)) (g .tests) (deepest cat)
+      by : (y : Bool) → Alike q r (cond y (at q k (q .next)) damaged) (cond y (at r k (q .next)) damaged)
+      by true = offer-copy q r c h some (keyOf bitsPerRow (trialDue cat cells q .rows)) (trialDue cat cells q .tests) (deepest cat)
       by false = refl

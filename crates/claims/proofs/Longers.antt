@@ -28,7 +28,7 @@ use Rattle.claims.proofs.Calls.{Sound, taken-le, live-trial, live-set, 
 use Rattle.claims.proofs.Opens.{Begins, opens-iff, begins}
 use Rattle.claims.proofs.Steps.{stepsOf, steps-made, steps-counted, run-moves}
 use Rattle.claims.proofs.Runs.{run, ended, one, still}
-use Rattle.claims.proofs.Copies.{copy-trans, Both, Alike, trial-copy}
+use Rattle.claims.proofs.Copies.{copy-trans, Also, Alike, trial-copy}
 
 -- ---- two calls that show the same
 
@@ -49,14 +49,14 @@ twin-answer : (a : Says) (q r : State) (row : List ℕ) → Copy q r → roomIn 
 twin-answer a q r row c e =
     record { says = refl; key = refl; trials = refl; tests = refl; looks = refl; row = refl; copy = c; rooms = e }
 
-twin-counted : (t l t' l' : ℕ) (s u : Called) → t' ≡ t → l' ≡ l → Twin s u → Twin (counted t l s) (counted t' l' u)
-twin-counted t l t' l' s u e f x =
+twin-counted : (t l : ℕ) (s u : Called) → Twin s u → Twin (counted t l s) (counted t l u)
+twin-counted t l s u x =
     record {
       says = x .says;
       key = x .key;
       trials = ap suc (x .trials);
-      tests = ap₂ (λ (y z : ℕ). y + z) e (x .tests);
-      looks = ap₂ (λ (y z : ℕ). y + z) f (x .looks);
+      tests = ap (λ (y : ℕ). t + y) (x .tests);
+      looks = ap (λ (y : ℕ). l + y) (x .looks);
       row = x .row;
       copy = x .copy;
       rooms = x .rooms;
@@ -64,18 +64,6 @@ twin-counted t l t' l' s u e f x =
 
 taken-copy : (q r : State) → Copy q r → Copy (takenOf q) (takenOf r)
 taken-copy q r c = record { store = c .store; taken = ap (λ (x : ℕ). x + 1) (c .taken); next = refl }
-
--- ---- a trial done in a stream, and in its copy
-
-alike-done : (q r p : State) (t l : ℕ) (u : Trial) → Alike q r (done p t l) u → (p' : State) × (t' : ℕ) × (l' : ℕ) × (u ≡ done p' t' l') × Both q r p p' t l t' l'
-alike-done q r p t l (done p' t' l') x = (p', t', l', refl, x)
-alike-done q r p t l full x = absurd x
-alike-done q r p t l damaged x = absurd x
-
-alike-full : (q r : State) (u : Trial) → roomIn (r .store) ≡ roomIn (q .store) → Alike q r full u → u ≡ full
-alike-full q r (done p' t' l') e x = absurd (omega arith)
-alike-full q r full e x = refl
-alike-full q r damaged e x = absurd x
 
 module _ (cat : Catalogue) (cells : List ℕ) (L : Lawful cat (length cells)) (c : ℕ) where
   -- What is due in a stream is due in its copy.
@@ -111,7 +99,8 @@ module _ (cat : Catalogue) (cells : List ℕ) (L : Lawful cat (length cells)) (c
       by-ways cat cells row (λ b q s. (r : State) → Sound cat cells c q → Copy q r → roomIn (r .store) ≡ roomIn (q .store) → Twin s (work cat cells b r row))
       (record {
         ends = λ b q e f r g k m.
-            subst (Twin (answer finished q row)) (sym (work-ends cat cells row b r (k .next ∙ e) (k .taken ∙ f ∙ sym (k .store .found)))) (twin-answer finished q r row k m);
+            subst (Twin (answer finished q row)) (sym (work-ends cat cells row b r (k .next ∙ e) (k .taken ∙ f ∙ sym (k .store .found))))
+            (twin-answer finished q r row k m);
         hands = λ b q e f h r g k m.
             let x = copy-key q r k (live-set cat cells c q g f .1) in
             subst (Twin (handing cat cells row q)) (sym (work-hands cat cells row b r (k .next ∙ e) (copy-unequal q r k f) (ap (named cat) x ∙ h)))
@@ -128,13 +117,14 @@ module _ (cat : Catalogue) (cells : List ℕ) (L : Lawful cat (length cells)) (c
         lost = λ b q e f h r g k m. let (live, l) = live-set cat cells c q g f in absurd (clash (named-at cat cells L c q live (q .taken) l) h);
         spent = λ q e r g k m. subst (Twin (answer working q row)) (sym (work-spent cat cells row r (copy-not q r k e))) (twin-answer working q r row k m);
         fills = λ b q e f r g k m.
-            let x = alike-full q r (trialOn cat cells r) m (alike q r k full g e f (omega arith)) in
+            let x : trialOn cat cells r ≡ full = ⊎-elim (λ y. y) (λ y. absurd (omega arith)) (alike q r k full g e f (omega arith)) in
             subst (Twin (answer (refused 12) q row)) (sym (work-trial cat cells row b r full (copy-not q r k e) x)) (twin-answer (refused 12) q r row k m);
         fails = λ b q e f r g k m. absurd (never-damaged q g e f);
         goes = λ b q p t l e f ih r g k m.
-            let (p', t', l', x, y) = alike-done q r p t l (trialOn cat cells r) (alike q r k (done p t l) g e f (omega arith)) in
-            subst (Twin (counted t l (work cat cells b p row))) (sym (work-trial cat cells row b r (done p' t' l') (copy-not q r k e) x))
-            (twin-counted t l t' l' (work cat cells b p row) (work cat cells b p' row) (y .tests) (y .looks) (ih p' (did-sound q p t l g e f) (y .copy) (y .long ∙ m ∙ sym (y .short))));
+            let y = alike q r k (done p t l) g e f (omega arith) in
+            subst (Twin (counted t l (work cat cells b p row))) (sym (work-trial cat cells row b r (done (y .state) t l) (copy-not q r k e) (y .it)))
+            (twin-counted t l (work cat cells b p row) (work cat cells b (y .state) row)
+            (ih (y .state) (did-sound q p t l g e f) (y .copy) (y .long ∙ m ∙ sym (y .short))));
       })
       b q r
 
@@ -176,10 +166,10 @@ module _ (cat : Catalogue) (cells : List ℕ) (L : Lawful cat (length cells)) (c
       → Pace q r (answer a q row) (answer a' r row)
   pace-none q r row a a' k e f = record { steps = f ∙ sym e; copy = k; short = refl; long = refl }
 
-  pace-counted : (q r p p' : State) (t l t' l' : ℕ) (s u : Called) → Both q r p p' t l t' l' → Pace p p' s u → Pace q r (counted t l s) (counted t' l' u)
-  pace-counted q r p p' t l t' l' s u y i =
+  pace-counted : (q r p : State) (t l : ℕ) (s v : Called) (u : Trial) (y : Also q r p t l u) → Pace p (y .state) s v → Pace q r (counted t l s) (counted t l v)
+  pace-counted q r p t l s v u y i =
       record {
-        steps = steps-counted t' l' u ∙ ap suc (i .steps) ∙ sym (steps-counted t l s);
+        steps = steps-counted t l v ∙ ap suc (i .steps) ∙ sym (steps-counted t l s);
         copy = i .copy;
         short = i .short ∙ y .short;
         long = i .long ∙ y .long;
@@ -206,10 +196,11 @@ module _ (cat : Catalogue) (cells : List ℕ) (L : Lawful cat (length cells)) (c
             subst (Pace q r (answer (refused 12) q row)) (sym (work-spent cat cells row r (copy-not q r k e))) (pace-none q r row (refused 12) working k refl refl);
         fails = λ b q e f r g k m. absurd (never-damaged q g e f);
         goes = λ b q p t l e f ih r g k m.
-            let (p', t', l', x, y) = alike-done q r p t l (trialOn cat cells r) (alike q r k (done p t l) g e f m) in
+            let y = alike q r k (done p t l) g e f m in
             let s = work cat cells b p row in
-            subst (Pace q r (counted t l s)) (sym (work-trial cat cells row (s .trials) r (done p' t' l') (copy-not q r k e) x))
-            (pace-counted q r p p' t l t' l' s (work cat cells (s .trials) p' row) y (ih p' (did-sound q p t l g e f) (y .copy) (omega (arith, y .short, y .long))));
+            subst (Pace q r (counted t l s)) (sym (work-trial cat cells row (s .trials) r (done (y .state) t l) (copy-not q r k e) (y .it)))
+            (pace-counted q r p t l s (work cat cells (s .trials) (y .state) row) (trialOn cat cells r) y
+            (ih (y .state) (did-sound q p t l g e f) (y .copy) (omega (arith, y .short, y .long))));
       })
       b q r
 
@@ -239,12 +230,16 @@ module _ (cat : Catalogue) (cells : List ℕ) (L : Lawful cat (length cells)) (c
       let s = one cat cells x q in
       let u = one cat cells (paced x q) r in
       let f = call-pace x q r g h k m in
-      let i = run-pace gs (s .after) (u .after) (called cat cells L c (x .budget) q (x .row) g .sound) (called cat cells L c' (s .trials) r (x .row) h .sound) (f .copy) (omega (arith, f .short, f .long)) in (
-        paced x q ∷ i .0,
+      let sound = called cat cells L c (x .budget) q (x .row) g .sound in
+      let sound' = called cat cells L c' (s .trials) r (x .row) h .sound in
+      let (es, i) = run-pace gs (s .after) (u .after) sound sound' (f .copy) (omega (arith, f .short, f .long)) in
+      let first = sym (steps-made u (run cat cells es (u .after))) in
+      (
+        paced x q ∷ es,
         record {
-          steps = sym (steps-made u (run cat cells (i .0) (u .after))) ∙ ap₂ (λ (y z : ℕ). y + z) (f .steps) (i .1 .steps) ∙ steps-made s (run cat cells gs (s .after));
-          copy = i .1 .copy;
-          long = i .1 .long ∙ f .long;
+          steps = first ∙ ap₂ (λ (y z : ℕ). y + z) (f .steps) (i .steps) ∙ steps-made s (run cat cells gs (s .after));
+          copy = i .copy;
+          long = i .long ∙ f .long;
         },
       )
 

@@ -10,6 +10,7 @@ use lib.ListN.{length, getD}
 use Rattle.laws.specs.Distinct.{Distinct}
 use Rattle.laws.proofs.TabLaws.{mem-tab, tab-mem, tab-distinct}
 use Rattle.laws.proofs.MemberLaws.{mem-at, at-mem}
+use Rattle.laws.proofs.DistinctLaws.{distinct-le}
 use Rattle.keys.specs.Keys.{bitsPerRow, keyOf}
 use Rattle.tables.specs.declared.Catalogue.{Catalogue}
 use Rattle.tables.specs.Catalogues.{total}
@@ -84,12 +85,18 @@ module _ (cat : Catalogue) (cells : List ℕ) where
     pub taken-once : (q : State) → Sound cat cells c q → q .taken ≤ q .store .found → Distinct (takenKeys q)
     taken-once q x h = tab-distinct (q .taken) (keyAt q) (λ i j a b e. found-once q x i j (omega arith) (omega arith) e)
 
-    -- At the end every maximal set was taken.
+    -- At the end every maximal set was found, ..
+    found-all : (q : State) (g : Live cat cells c q) → q .taken ≡ q .store .found → q .next ≡ total cat
+        → (T : List ℕ) → Maximal (W cat cells) T → List·Memᴰ T (g .sets)
+    found-all q g a b T =
+        let some : 0 < length (g .sets) = omega (arith, g .tree .1 .some, g .long) in
+        Kept.finished (W cat cells) (world-symmetric cat cells) (listed cat cells (g .sets) q) (g .going) some (a ∙ sym (g .long)) (b ∙ sym (rows-total cat cells)) T .0
+
+    -- .. and taken.
     pub taken-all : (q : State) → Sound cat cells c q → q .taken ≡ q .store .found → q .next ≡ total cat
         → (T : List ℕ) → Maximal (W cat cells) T → List·Memᴰ (keyOf bitsPerRow T) (takenKeys q)
     taken-all q (inl g) a b T x =
-        let m = Kept.finished (W cat cells) (world-symmetric cat cells) (listed cat cells (g .sets) q) (g .going) (omega (arith, g .tree .1 .some, g .long)) (a ∙ sym (g .long)) (b ∙ sym (rows-total cat cells)) T .0 x in
-        let (i, l, e) = at-mem [] m in
+        let (i, l, e) = at-mem [] (found-all q g a b T x) in
         let h : i < q .store .found = omega (arith, g .long) in
         let k : keyAt q i ≡ keyOf bitsPerRow T = g .keyed i h ∙ ap (keyOf bitsPerRow) (sym e) in
         subst (λ (y : ℕ). List·Memᴰ y (takenKeys q)) k (mem-tab (q .taken) (keyAt q) i (omega arith))
@@ -148,8 +155,7 @@ module _ (cat : Catalogue) (cells : List ℕ) where
     -- At the end there are no more sets than records.
     pub end-no-more : (q : State) → Sound cat cells c q → q .taken ≡ q .store .found → q .next ≡ total cat → MoreThan (W cat cells) c → ⊥
     end-no-more q (inl g) a b (l, d, m, h) =
-        Kept.finished-no-more (W cat cells) (world-symmetric cat cells) (listed cat cells (g .sets) q) (g .going) (omega (arith, g .tree .1 .some, g .long)) (a ∙ sym (g .long)) (b ∙ sym (rows-total cat cells))
-        (l, d, m, omega (arith, g .long, g .within))
+        omega (arith, distinct-le l (g .sets) d (λ T k. found-all q g a b T (m T k)), g .long, g .within)
     end-no-more q (inr g) a b (l, d, m, h) =
         let T : List ℕ = getD l 0 [] in none-jcc (W cat cells) (rows-total cat cells ∙ g .none) T (m T (mem-at l [] 0 (omega arith)) .jcc)
 
@@ -187,8 +193,8 @@ module _ (cat : Catalogue) (cells : List ℕ) where
         by ih aSet e z =
             ends-later s (run gs (s .after))
             (ih
-            (let t : s .after .taken * (total cat + 1) ≡ q .taken * (total cat + 1) + 1 * (total cat + 1) = ap (λ (n : ℕ). n * (total cat + 1)) (z .taken) ∙ add-mul (q .taken) 1 (total cat + 1) in
-            omega (arith, z .next, z .trials)))
+            (let t : s .after .taken * (total cat + 1) ≡ (q .taken + 1) * (total cat + 1) = ap (λ (n : ℕ). n * (total cat + 1)) (z .taken) in
+            omega (arith, z .next, z .trials, add-mul (q .taken) 1 (total cat + 1))))
         by ih finished e z = inl (s, List·Memᴰ·head refl, e)
         by ih working e z =
             ends-later s (run gs (s .after))
