@@ -1,12 +1,12 @@
 -- What a call makes of a stream that is as it should be (`called`), by induction over the ways of a call. Assumes nothing.
-use Prim.Native.Nat.{ℕ, zero, suc, _+_, _-_, _*_, _≤_, _<_}
+use Prim.Native.Nat.{ℕ, suc, _+_, _-_, _*_, _≤_, _<_}
 use native.Mathlib.Omega.{arith}
 use native.Mathlib.Nat.{suc-mul}
 use native.Mathlib.Decide.{decLt}
 use mathlib.Core.Path.{_≡_, refl, sym, ap, subst, _∙_}
 use mathlib.Core.Logic.{_⊎_, inl, inr}
-use mathlib.Core.Bool.{true, false}
-use mathlib.Core.List.{List, [], _∷_, _++_, append-nil}
+use mathlib.Core.Bool.{true}
+use mathlib.Core.List.{List, [], _++_, append-nil}
 use lib.ListN.{length, getD}
 use Rattle.laws.specs.Lists.{tab}
 use Rattle.laws.proofs.TabLaws.{tab-ext, tab-more}
@@ -23,10 +23,9 @@ use Rattle.disjunction.proofs.KeepingLaws.{going-take}
 use Rattle.rows.specs.Named.{named}
 use Rattle.rows.proofs.WorldLaws.{rows-total}
 use Rattle.rows.proofs.NamedLaws.{named-iff}
-use Rattle.store.specs.Store.{roomIn}
-use Rattle.machine.specs.Machine.{State, keyAt, Trial, done, full, damaged, deepest, trialOn, Says, aSet, finished, working, refused, Called, answer, counted, takenOf, keyDue, Fit, work, call}
+use Rattle.machine.specs.Machine.{State, keyAt, done, deepest, trialOn, Says, aSet, finished, working, refused, Called, answer, counted, takenOf, Fit, work, call}
 use Rattle.machine.specs.Runs.{keysIn}
-use Rattle.machine.proofs.WorkLaws.{handing, by-ways}
+use Rattle.machine.proofs.WorkLaws.{by-ways}
 use Rattle.machine.proofs.RefusalLaws.{call-short, call-free, call-refused, call-works}
 use Rattle.claims.proofs.Live.{W, listed, Live, Did, Comes, maximal-named, tried}
 

@@ -1,14 +1,14 @@
 -- Demands 2 and 3 hold of the stream of document 01, wherever open gave no refusal. Each is read from the sound stream that open gave. Assumes nothing.
-use Prim.Native.Nat.{ℕ, zero, suc, _+_, _-_, _*_, _≤_, _<_}
+use Prim.Native.Nat.{ℕ, _+_, _-_, _*_, _≤_, _<_}
 use native.Mathlib.Omega.{arith}
 use native.Mathlib.Nat.{mul-comm, zero-mul}
 use native.Mathlib.Decide.{ℕ-discrete}
 use mathlib.Core.Path.{_≡_, refl, sym, ap, subst, _∙_}
 use mathlib.Core.Logic.{_⊎_, inl, inr, ⊎-elim}
 use mathlib.Core.List.{List, [], _∷_, _++_, List·Memᴰ, List·Memᴰ·head, Memᴰ·append-right}
-use lib.ListN.{length, getD, take, drop}
+use lib.ListN.{length, drop}
 use lib.Seq.{take-at, drop-at}
-use Rattle.laws.specs.Lists.{put, tab}
+use Rattle.laws.specs.Lists.{tab}
 use Rattle.laws.specs.Distinct.{Distinct}
 use Rattle.keys.specs.Keys.{bitsPerRow, keyOf}
 use Rattle.tables.specs.declared.Catalogue.{Catalogue}
@@ -16,18 +16,19 @@ use Rattle.tables.specs.Catalogues.{total}
 use Rattle.tables.specs.Checks.{Lawful}
 use Rattle.disjunction.specs.Sets.{Tables, Maximal, MoreThan}
 use Rattle.disjunction.specs.Cells.{padded, Embedding, tables}
-use Rattle.disjunction.specs.Keeping.{listOpen, listMoves, testsIn}
+use Rattle.disjunction.specs.Keeping.{listMoves, testsIn}
 use Rattle.disjunction.proofs.CellLaws.{padded-long, padded-embedding}
 use Rattle.rows.specs.World.{cellsIn, setOf}
 use Rattle.rows.proofs.WorldLaws.{world-tables}
 use Rattle.store.specs.Store.{storeIn, roomIn}
-use Rattle.machine.specs.Machine.{State, keyAt, deepest, Says, aSet, finished, working, refused, Called, keyDue, paddedIn, work, call, opening}
+use Rattle.machine.specs.Machine.{State, keyAt, deepest, Says, aSet, finished, refused, Called, paddedIn, work, call, opening}
 use Rattle.machine.specs.Runs.{Given, keysIn, handed, sum}
-use Rattle.machine.proofs.WorkLaws.{work-ends, work-hands, RowBy, work-row}
+use Rattle.machine.proofs.WorkLaws.{work-ends, work-hands, RowBy}
 use Rattle.claims.specs.Demands.{Answered, Closes, Able, made, Padded, Holds, goesOn, Gap, Demand2, Demand3, Demands}
 use Rattle.claims.proofs.Live.{W, maximal-set}
 use Rattle.claims.proofs.Calls.{takenKeys, Sound, ToSet, ToEnd, Said, Went, taken-le, live-set, sound-fit, record-maximal, named-at, went, call-work, call-low, by-call, called}
 use Rattle.claims.proofs.Opens.{Begins, begins}
+use Rattle.claims.proofs.Exact.{call-row}
 use Rattle.claims.proofs.Steps.{work-split, run-moves}
 use Rattle.claims.proofs.Runs.{run, ended, one, each, still, handed-taken, taken-only, found-once, taken-once, all-handed, gap-trials, sum-bounded, end-no-more, drain}
 use Rattle.claims.proofs.Holding.{sound-holds, run-held}
@@ -82,17 +83,22 @@ module _ (cat : Catalogue) (cells : List ℕ) (L : Lawful cat (length cells)) wh
         let p = ended cat cells gs q in
         let s = call cat cells b p row in
         let x = then gs b row in
-        let r : RowBy cat cells row s aSet = subst (RowBy cat cells row s) e (by-call cat cells L (λ u. RowBy cat cells row u (u .says)) c b p row (at-end gs) (λ h. work-row cat cells row b p) (λ h. (refl, refl))) in
+        let r : s .row ≡ paddedIn cat cells (s .key) row = subst (RowBy cat cells row s) e (call-row cat cells row b p) in
         let k : takenKeys p ++ (s .key ∷ []) ≡ takenKeys (s .after) = subst (λ (a : Says). takenKeys p ++ keysIn a (s .key) ≡ takenKeys (s .after)) e (x .keys) in
-        let (T, t, f) = taken-only cat cells L c (s .after) (x .sound) (s .key) (subst (λ (l : List ℕ). List·Memᴰ (s .key) l) k (Memᴰ·append-right (takenKeys p) (List·Memᴰ·head refl))) in
+        let m : List·Memᴰ (s .key) (takenKeys (s .after)) = subst (λ (l : List ℕ). List·Memᴰ (s .key) l) k (Memᴰ·append-right (takenKeys p) (List·Memᴰ·head refl)) in
+        let (T, t, f) = taken-only cat cells L c (s .after) (x .sound) (s .key) m in
         subst (Padded cat cells (s .key) row) (sym r) (put-padded T (s .key) row t (ap (setOf cat) f ∙ maximal-set cat cells L T t))
 
     pub demand2 : Demand2 cat cells (call cat cells) q
     demand2 =
         record {
           only = λ gs k m. taken-only cat cells L c (ended cat cells gs q) (at-end gs) k (subst (λ (l : List ℕ). List·Memᴰ k l) (handed-all gs) m);
-          once = λ gs. subst (λ (l : List ℕ). Distinct l) (sym (handed-all gs)) (taken-once cat cells L c (ended cat cells gs q) (at-end gs) (taken-le cat cells c (ended cat cells gs q) (at-end gs)));
-          every = λ gs f T x. subst (λ (l : List ℕ). List·Memᴰ (keyOf bitsPerRow T) l) (handed-taken cat cells L c gs q (o .sound) ∙ sym (handed-all gs)) (all-handed cat cells L c gs q (o .sound) f T x);
+          once = λ gs.
+              let p = ended cat cells gs q in
+              subst (λ (l : List ℕ). Distinct l) (sym (handed-all gs)) (taken-once cat cells L c p (at-end gs) (taken-le cat cells c p (at-end gs)));
+          every = λ gs f T x.
+              subst (λ (l : List ℕ). List·Memᴰ (keyOf bitsPerRow T) l) (handed-taken cat cells L c gs q (o .sound) ∙ sym (handed-all gs))
+              (all-handed cat cells L c gs q (o .sound) f T x);
           named = maximal-set cat cells L;
           padded = padded-set;
         }
@@ -117,23 +123,40 @@ module _ (cat : Catalogue) (cells : List ℕ) (L : Lawful cat (length cells)) wh
             let (live, l) = live-set cat cells c q (o .sound) f in
             rw (w ∙ work-hands cat cells row b q (o .next) f (named-at cat cells L c q live (q .taken) l)) (inl refl, refl)
 
+    -- From p, where a set was just handed out.
+    gap-from : (p : State) → Sound cat cells c p → p .next ≡ 0 → (gs : List Given) (b : Given)
+        → ((s : Called) → List·Memᴰ s (run cat cells gs p) → Closes (s .says) → ⊥) → Closes (one cat cells b (ended cat cells gs p) .says)
+        → Gap cat cells (run cat cells (gs ++ (b ∷ [])) p)
+    gap-from p x z gs b f l =
+        record {
+          trials = all;
+          tests = rw (mul-comm (total cat) (cat .n * total cat)) at (rw all at (bounded (λ s. s .tests) (cat .n * total cat) (λ v g y. each-call v g y .tests)));
+          looks = rw all at (bounded (λ s. s .looks) (deepest cat + 1) (λ v g y. each-call v g y .looks));
+        }
+      where
+        r : List Called
+        r = run cat cells (gs ++ (b ∷ [])) p
+
+        all : sum (λ s. s .trials) r ≡ total cat
+        all = omega (arith, z, gap-trials cat cells L c gs b p x f l)
+
+        each-call : (v : State) (g : Given) → Sound cat cells c v → Went cat cells c v (g .budget) (g .row) (one cat cells g v)
+        each-call v g y = called cat cells L c (g .budget) v (g .row) y
+
+        bounded : (k : Called → ℕ) (d : ℕ) → ((v : State) (g : Given) → Sound cat cells c v → k (one cat cells g v) ≤ one cat cells g v .trials * d)
+            → sum k r ≤ sum (λ s. s .trials) r * d
+        bounded k d h = sum-bounded cat cells L c k d h (gs ++ (b ∷ [])) p x
+
     gap : (es : List Given) (a : Given) (gs : List Given) (b : Given) → one cat cells a (ended cat cells es q) .says ≡ aSet
         → ((s : Called) → List·Memᴰ s (run cat cells gs (one cat cells a (ended cat cells es q) .after)) → Closes (s .says) → ⊥)
         → Closes (one cat cells b (ended cat cells gs (one cat cells a (ended cat cells es q) .after)) .says)
         → Gap cat cells (run cat cells (gs ++ (b ∷ [])) (one cat cells a (ended cat cells es q) .after))
-    gap es a gs b e f l =
+    gap es a gs b e =
+        let p = ended cat cells es q in
+        let s = one cat cells a p in
         let x = then es (a .budget) (a .row) in
-        let p = one cat cells a (ended cat cells es q) .after in
-        let y : ToSet cat cells (ended cat cells es q) (one cat cells a (ended cat cells es q)) = subst (Said cat cells c (ended cat cells es q) (a .budget) (a .row) (one cat cells a (ended cat cells es q))) e (x .said) in
-        let r = run cat cells (gs ++ (b ∷ [])) p in
-        let m : sum (λ s. s .trials) r ≡ total cat = omega (arith, y .next, gap-trials cat cells L c gs b p (x .sound) f l) in
-        let bounded : (k : Called → ℕ) (d : ℕ) → ((v : State) (g : Given) → Sound cat cells c v → k (one cat cells g v) ≤ one cat cells g v .trials * d) → sum k r ≤ total cat * d =
-        λ k d h. subst (λ (n : ℕ). sum k r ≤ n * d) m (sum-bounded cat cells L c k d h (gs ++ (b ∷ [])) p (x .sound)) in
-        record {
-          trials = m;
-          tests = rw (mul-comm (total cat) (cat .n * total cat)) at (bounded (λ s. s .tests) (cat .n * total cat) (λ v g z. called cat cells L c (g .budget) v (g .row) z .tests));
-          looks = bounded (λ s. s .looks) (deepest cat + 1) (λ v g z. called cat cells L c (g .budget) v (g .row) z .looks);
-        }
+        let y : ToSet cat cells p s = subst (Said cat cells c p (a .budget) (a .row) s) e (x .said) in
+        gap-from (s .after) (x .sound) (y .next) gs b
 
     records : (gs : List Given) (p : ℕ) → p < ended cat cells gs q .store .found
         → (T : List ℕ) × Maximal (W cat cells) T × (keyAt (ended cat cells gs q) p ≡ keyOf bitsPerRow T)
@@ -169,7 +192,8 @@ module _ (cat : Catalogue) (cells : List ℕ) (L : Lawful cat (length cells)) wh
           split = λ gs a b row. call-split c a b (ended cat cells gs q) row (at-end gs);
           held = λ gs.
               let h = run-held cat cells L c gs q (o .sound) in
-              subst (Holds (ended cat cells gs q)) (h .list ∙ ap (listMoves (W cat cells) (made (run cat cells gs q))) (o .list)) (sound-holds cat cells c (ended cat cells gs q) (h .sound));
+              let p = ended cat cells gs q in
+              subst (Holds p) (h .list ∙ ap (listMoves (W cat cells) (made (run cat cells gs q))) (o .list)) (sound-holds cat cells c p (h .sound));
           records = records;
           apart = λ gs. found-once cat cells L c (ended cat cells gs q) (at-end gs);
           tested = λ gs. run-held cat cells L c gs q (o .sound) .tests ∙ ap (testsIn (W cat cells) (made (run cat cells gs q))) (o .list);

@@ -1,13 +1,12 @@
 -- Demand 1's exact conditions hold of open and of a call, in any state. Assumes nothing.
-use Prim.Native.Nat.{ℕ, zero, suc, _≤_, _<_}
+use Prim.Native.Nat.{ℕ, zero, suc}
 use mathlib.Core.Path.{_≡_, refl, sym, ap, subst, _∙_}
 use mathlib.Core.Logic.{_⊎_, inl, inr}
 use mathlib.Core.List.{List}
 use lib.ListN.{length}
 use Rattle.tables.specs.declared.Catalogue.{Catalogue}
-use Rattle.tables.specs.Checks.{Lawful}
 use Rattle.store.specs.Store.{storeIn}
-use Rattle.machine.specs.Machine.{State, Says, aSet, finished, working, refused, Called, answer, Fit, callFault, unlessMet, work, call, Opened, openFault, opening}
+use Rattle.machine.specs.Machine.{State, Says, aSet, finished, working, refused, Called, callFault, unlessMet, work, call, Opened, openFault, opening}
 use Rattle.machine.proofs.WorkLaws.{by-ways, RowBy, work-row}
 use Rattle.machine.proofs.RefusalLaws.{call-free, call-refused, call-works, open-catalogue, opening-refused, opening-says}
 use Rattle.claims.specs.Demands.{Demand1}
@@ -34,7 +33,7 @@ module _ (cat : Catalogue) (cells row : List ℕ) where
         goes = λ b q p t l e f ih. ih;
       })
 
-  call-row : (b : ℕ) (q : State) → RowBy cat cells row (call cat cells b q row) (call cat cells b q row .says)
+  pub call-row : (b : ℕ) (q : State) → RowBy cat cells row (call cat cells b q row) (call cat cells b q row .says)
   unfolding call
   call-row b q = by (callFault cat (length cells) q row)
     where

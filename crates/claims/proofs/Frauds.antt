@@ -1,15 +1,15 @@
 -- The frauds of document 01 break on the demands: each is a stream, or an open, that is shown not to meet them. Assumes nothing.
-use Prim.Native.Nat.{ℕ, zero, suc, _+_, _≤_, _<_}
+use Prim.Native.Nat.{ℕ, _+_, _<_}
 use native.Mathlib.Omega.{arith}
 use native.Mathlib.Decide.{ℕ-discrete}
-use mathlib.Core.Path.{_≡_, refl, sym, ap, subst, _∙_}
-use mathlib.Core.Logic.{_⊎_, inl, inr, _↔_}
-use mathlib.Core.List.{List, [], _∷_, List·Memᴰ, List·Memᴰ·head, List·Memᴰ·not-nil}
+use mathlib.Core.Path.{_≡_, refl, sym, subst, _∙_}
+use mathlib.Core.Logic.{inl, inr}
+use mathlib.Core.List.{List, [], _∷_, List·Memᴰ·head, List·Memᴰ·not-nil}
 use lib.ListN.{length, replicate, length-replicate}
 use lib.Count.{ones}
 use Rattle.laws.specs.Tests.{any, all}
 use Rattle.laws.specs.Lists.{tab}
-use Rattle.laws.specs.Distinct.{Distinct, none, more}
+use Rattle.laws.specs.Distinct.{Distinct, more}
 use Rattle.words.specs.Words.{bitOf}
 use Rattle.tables.specs.declared.Catalogue.{Catalogue}
 use Rattle.tables.specs.Catalogues.{firstCell, rowStart}
@@ -19,7 +19,6 @@ use Rattle.disjunction.specs.Rule.{rowsTo, rowsBelow, member, absent, near, agr
 use Rattle.disjunction.specs.Cells.{same, sharing, matching}
 use Rattle.disjunction.specs.Keeping.{sameDec, sets-discrete, decMemᴰ, stored, keep, take, try, listOpen, listMove, listMoves}
 use Rattle.rows.specs.World.{worldOf, touchesIn, fitsIn}
-use Rattle.store.specs.Store.{storeIn, roomIn}
 use Rattle.machine.specs.Machine.{State, Says, aSet, finished, working, refused, Called, call, Opened}
 use Rattle.machine.specs.Runs.{Given, runOf, endedOf, handed, sum}
 use Rattle.machine.proofs.Sample.{three, threeCells, first, open-says}

@@ -1,8 +1,8 @@
 -- The store holds what the rule over a list of sets says, and the row tests are its row tests. Induction over the ways of a call. Assumes nothing.
-use Prim.Native.Nat.{ℕ, zero, suc, _+_, _-_, _<_}
+use Prim.Native.Nat.{ℕ, zero, suc, _+_, _-_}
 use native.Mathlib.Omega.{arith}
 use native.Mathlib.Nat.{suc-add, zero-add, add-assoc}
-use mathlib.Core.Path.{_≡_, refl, sym, ap, ap₂, subst, _∙_}
+use mathlib.Core.Path.{_≡_, refl, sym, ap, ap₂, _∙_}
 use mathlib.Core.Logic.{inl, inr}
 use mathlib.Core.List.{List, [], _∷_}
 use lib.ListN.{length}
@@ -15,7 +15,7 @@ use Rattle.disjunction.specs.Rule.{rows}
 use Rattle.disjunction.specs.Keeping as Sets
 use Rattle.disjunction.specs.Keeping.{take, try, listMove, listTests, listMoves, testsIn}
 use Rattle.rows.proofs.WorldLaws.{rows-total}
-use Rattle.machine.specs.Machine.{State, done, trialOn, Says, finished, working, refused, Called, answer, counted, takenOf, work, call}
+use Rattle.machine.specs.Machine.{State, done, trialOn, Says, finished, working, refused, Called, answer, counted, work}
 use Rattle.machine.specs.Runs.{Given, runOf, endedOf, handed, sum}
 use Rattle.machine.proofs.WorkLaws.{handing, by-ways}
 use Rattle.claims.specs.Demands.{made, Holds}
@@ -123,14 +123,18 @@ module _ (cat : Catalogue) (cells : List ℕ) where
     run-held c [] q g = record { sound = g; list = refl; tests = refl }
     run-held c (x ∷ gs) q g =
         let s = one cat cells x q in
-        let h = by-call cat cells L (Held c q g) c (x .budget) q (x .row) g (λ m. work-held c (x .budget) (x .row) q g) (λ m. held-none c q g (refused 11) (x .row) refl) in
+        let h =
+        by-call cat cells L (Held c q g) c (x .budget) q (x .row) g (λ m. work-held c (x .budget) (x .row) q g) (λ m. held-none c q g (refused 11) (x .row) refl) in
         let i = run-held c gs (s .after) (h .sound) in
         let r = run cat cells gs (s .after) in
         let z = listOf cat cells c q g in
         let e = steps-made s r in
         record {
           sound = i .sound;
-          list = i .list ∙ ap (listMoves (W cat cells) (made r)) (h .list) ∙ sym (list-add (W cat cells) (stepsOf s) (made r) z) ∙ ap (λ (k : ℕ). listMoves (W cat cells) k z) e;
+          list = i .list
+              ∙ ap (listMoves (W cat cells) (made r)) (h .list)
+              ∙ sym (list-add (W cat cells) (stepsOf s) (made r) z)
+              ∙ ap (λ (k : ℕ). listMoves (W cat cells) k z) e;
           tests = ap₂ (λ (x y : ℕ). x + y) (h .tests) (i .tests ∙ ap (testsIn (W cat cells) (made r)) (h .list))
               ∙ sym (tests-add (W cat cells) (stepsOf s) (made r) z)
               ∙ ap (λ (k : ℕ). testsIn (W cat cells) k z) e;

@@ -1,6 +1,6 @@
 -- What holds of a stream at every time (`Live`: its store is a tree of distinct maximal sets, and what was tried is among them), and what a trial makes
 -- of it (`tried`). Both rest on the rule over a list of sets and on the good store. Assumes nothing.
-use Prim.Native.Nat.{ℕ, zero, suc, _+_, _-_, _*_, _≤_, _<_}
+use Prim.Native.Nat.{ℕ, _+_, _-_, _≤_, _<_}
 use native.Mathlib.Omega.{arith}
 use native.Mathlib.Nat.{eq-zero-or-pos, eq-or-lt-of-le}
 use mathlib.Core.Path.{_≡_, refl, sym, ap, subst, _∙_}
@@ -16,16 +16,16 @@ use Rattle.keys.specs.Keys.{bitsPerRow, keyOf}
 use Rattle.tables.specs.declared.Catalogue.{Catalogue}
 use Rattle.tables.specs.Catalogues.{total}
 use Rattle.tables.specs.Checks.{Lawful}
-use Rattle.disjunction.specs.Sets.{Tables, Row, Valid, Maximal, MoreThan}
-use Rattle.disjunction.specs.Rule.{Place, rows, rowAt, trial}
+use Rattle.disjunction.specs.Sets.{Tables, Maximal, MoreThan}
+use Rattle.disjunction.specs.Rule.{rows, rowAt, trial}
 use Rattle.disjunction.specs.Keeping as Sets
 use Rattle.disjunction.specs.Keeping.{keep, try}
 use Rattle.disjunction.proofs.KeepingLaws.{Going, next-maximal, going-try, keep-had, keep-new}
 use Rattle.rows.specs.World.{worldOf, setOf}
-use Rattle.rows.specs.Named.{named, Named}
+use Rattle.rows.specs.Named.{Named}
 use Rattle.rows.proofs.WorldLaws.{world-symmetric, rows-total}
 use Rattle.rows.proofs.NamedLaws.{named-iff, valid-set, valid-named}
-use Rattle.store.specs.Store.{Store, roomIn, searchOf, filed, added, answerOf, storeAfter}
+use Rattle.store.specs.Store.{roomIn, searchOf, filed, added, answerOf, storeAfter}
 use Rattle.store.specs.declared.Looked.{Looked}
 use Rattle.store.specs.declared.Looked.the-variants.{Found, Absent, Damaged}
 use Rattle.store.specs.declared.Placed.the-variants.{Added, Full}
@@ -153,7 +153,7 @@ module _ (cat : Catalogue) (cells : List ℕ) where
             sets = g .sets ++ (U ∷ []);
             tree = t;
             long = longer;
-            keyed = λ j m. ⊎-elim (λ (x : j ≡ q .store .found). at-end j x) (λ (x : j < q .store .found). before j x) (eq-or-lt-of-le {n = j} {m = q .store .found} (omega arith));
+            keyed = λ j m. ⊎-elim (at-end j) (before j) (eq-or-lt-of-le {n = j} {m = q .store .found} (omega arith));
             going = ahead (g .sets ++ (U ∷ [])) (keep-new (g .sets) U (new n));
             size = room-added (q .store) key p s ∙ g .size;
             within = omega (arith, g .size);
@@ -166,7 +166,9 @@ module _ (cat : Catalogue) (cells : List ℕ) where
 
           before : (j : ℕ) → j < q .store .found → getD (added (q .store) key p s .keys) j 0 ≡ keyOf bitsPerRow (getD (g .sets ++ (U ∷ [])) j [])
           before j x =
-              added-cells (q .store) key p s l h .old-key j x ∙ g .keyed j x ∙ ap (keyOf bitsPerRow) (sym (List·getD-append (g .sets) (U ∷ []) [] j (omega (arith, g .long))))
+              added-cells (q .store) key p s l h .old-key j x
+              ∙ g .keyed j x
+              ∙ ap (keyOf bitsPerRow) (sym (List·getD-append (g .sets) (U ∷ []) [] j (omega (arith, g .long))))
 
       -- By what the search says.
       searched : (a : Looked) → Offered bitsPerRow (cat .n) (q .store) key a → Inside (q .store .found) (deepest cat) a

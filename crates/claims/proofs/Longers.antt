@@ -1,16 +1,13 @@
 -- After 12, in a longer store: two streams with the same records in stores of one size show the same (`run-twin`), and a longer store follows a shorter
 -- one step by step (`run-pace`). Both by induction over the ways of a call. Assumes nothing.
-use Prim.Native.Nat.{ℕ, zero, suc, _+_, _-_, _*_, _≤_, _<_}
+use Prim.Native.Nat.{ℕ, zero, suc, _+_, _-_, _≤_, _<_}
 use native.Mathlib.Omega.{arith}
-use native.Mathlib.Nat.{suc-add, eq-zero-or-pos}
-use mathlib.Core.Path.{_≡_, refl, sym, ap, ap₂, subst, subst₂, _∙_}
+use native.Mathlib.Nat.{eq-zero-or-pos}
+use mathlib.Core.Path.{_≡_, refl, sym, ap, ap₂, subst, _∙_}
 use mathlib.Core.Logic.{_⊎_, inl, inr, ⊎-elim}
-use mathlib.Core.Bool.{Bool, true, false, cond}
 use mathlib.Core.List.{List, [], _∷_}
 use lib.ListN.{length, getD, set}
 use lib.Seq.{getD-set-same}
-use lib.Dec.{eqb}
-use borrow.Author.Tests.{eqb-true, eqb-false}
 use Rattle.laws.proofs.TestLaws.{clash}
 use Rattle.keys.specs.Keys.{bitsPerRow, keyOf}
 use Rattle.tables.specs.declared.Catalogue.{Catalogue}
@@ -18,13 +15,13 @@ use Rattle.tables.specs.Catalogues.{total}
 use Rattle.tables.specs.Checks.{Lawful}
 use Rattle.rows.specs.Named.{named}
 use Rattle.store.specs.Store.{storeIn, roomIn, filed}
-use Rattle.machine.specs.Machine.{State, keyAt, Trial, done, full, damaged, trialOn, Says, aSet, finished, working, refused, Called, answer, counted, takenOf, keyDue, unfit, callFault, unlessMet, paddedIn, work, call, Opened, zeros, firstGrown, opening}
+use Rattle.machine.specs.Machine.{State, keyAt, Trial, done, full, damaged, trialOn, Says, finished, working, refused, Called, answer, counted, takenOf, keyDue, unfit, callFault, unlessMet, paddedIn, work, call, firstGrown, opening}
 use Rattle.machine.specs.Runs.{Given, runOf, endedOf, moves}
-use Rattle.machine.proofs.WorkLaws.{handing, work-ends, work-hands, work-lost, work-spent, work-trial, by-ways}
+use Rattle.machine.proofs.WorkLaws.{handing, work-ends, work-hands, work-spent, work-trial, by-ways}
 use Rattle.machine.proofs.RefusalLaws.{opening-says, opening-empty, opening-begun}
 use Rattle.claims.specs.Demands.{Copy, Seen, seen, sight, made, Longers}
-use Rattle.claims.proofs.Live.{Live, Comes, tried}
-use Rattle.claims.proofs.Calls.{Sound, taken-le, live-trial, live-set, sound-fit, named-at, took, did, call-work, call-low, by-call, called}
+use Rattle.claims.proofs.Live.{Comes, tried}
+use Rattle.claims.proofs.Calls.{Sound, taken-le, live-trial, live-set, named-at, did, call-work, call-low, by-call, called}
 use Rattle.claims.proofs.Opens.{Begins, opens-iff, begins}
 use Rattle.claims.proofs.Steps.{stepsOf, steps-made, steps-counted, run-moves}
 use Rattle.claims.proofs.Runs.{run, ended, one, still}
@@ -233,8 +230,7 @@ module _ (cat : Catalogue) (cells : List ℕ) (L : Lawful cat (length cells)) (c
       let sound = called cat cells L c (x .budget) q (x .row) g .sound in
       let sound' = called cat cells L c' (s .trials) r (x .row) h .sound in
       let (es, i) = run-pace gs (s .after) (u .after) sound sound' (f .copy) (omega (arith, f .short, f .long)) in
-      let first = sym (steps-made u (run cat cells es (u .after))) in
-      (
+      let first = sym (steps-made u (run cat cells es (u .after))) in (
         paced x q ∷ es,
         record {
           steps = first ∙ ap₂ (λ (y z : ℕ). y + z) (f .steps) (i .steps) ∙ steps-made s (run cat cells gs (s .after));

@@ -1,19 +1,18 @@
 -- What open gives: where it refuses, and a sound stream to begin with where it does not. Assumes nothing.
-use Prim.Native.Nat.{ℕ, zero, suc, _+_, _≤_, _<_}
+use Prim.Native.Nat.{ℕ, _<_}
 use native.Mathlib.Omega.{arith}
 use native.Mathlib.Nat.{eq-zero-or-pos}
-use mathlib.Core.Path.{_≡_, refl, sym, ap, subst, _∙_}
+use mathlib.Core.Path.{_≡_, refl, sym, subst, _∙_}
 use mathlib.Core.Logic.{_⊎_, inl, inr, ⊎-elim, _↔_}
 use mathlib.Core.List.{List, [], _∷_, List·Memᴰ·head}
 use lib.ListN.{length}
 use lib.Seq.{getD-set-same}
 use borrow.Author.Tests.{eq-eqb, ne-eqb}
-use Rattle.laws.proofs.MemberLaws.{mem-at}
 use Rattle.keys.specs.Keys.{bitsPerRow, keyOf}
 use Rattle.tables.specs.declared.Catalogue.{Catalogue}
 use Rattle.tables.specs.Catalogues.{total}
-use Rattle.tables.specs.Checks.{Lawful, catalogueFault}
-use Rattle.disjunction.specs.Sets.{Maximal, MoreThan}
+use Rattle.tables.specs.Checks.{Lawful}
+use Rattle.disjunction.specs.Sets.{MoreThan}
 use Rattle.disjunction.specs.Rule.{rows, rowAt}
 use Rattle.disjunction.specs.Keeping.{listOpen}
 use Rattle.disjunction.proofs.RowOrder.{rowAt-row}
@@ -21,11 +20,11 @@ use Rattle.disjunction.proofs.KeepingLaws.{Going, going-open, none-jcc}
 use Rattle.rows.proofs.WorldLaws.{world-symmetric, rows-total}
 use Rattle.store.specs.Store.{storeIn, roomIn, filed}
 use Rattle.store.proofs.StoreLaws.{started, room-filed}
-use Rattle.machine.specs.Machine.{State, zeros, Opened, openFault, firstGrown, opening}
-use Rattle.machine.proofs.RefusalLaws.{open-catalogue, open-full, open-free, open-clear, opening-refused, opening-says, opening-empty, opening-begun}
+use Rattle.machine.specs.Machine.{State, zeros, openFault, firstGrown, opening}
+use Rattle.machine.proofs.RefusalLaws.{open-full, open-free, open-clear, opening-says, opening-empty, opening-begun}
 use Rattle.claims.specs.Demands.{OpenFull}
 use Rattle.claims.proofs.Live.{W, Live, maximal-named}
-use Rattle.claims.proofs.Calls.{Empty, Sound, listOf}
+use Rattle.claims.proofs.Calls.{Sound, listOf}
 
 module _ (cat : Catalogue) (cells : List ℕ) where
   -- What open gives in a store of c records.

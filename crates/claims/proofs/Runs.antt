@@ -1,6 +1,6 @@
 -- What holds of every list of calls on a sound stream: the keys handed out are those of the records taken, so that demand 2 is read from the state;
 -- trials, row tests and looks are summed; and a drain ends, since every call goes on by a step. Assumes nothing.
-use Prim.Native.Nat.{ℕ, zero, suc, _+_, _-_, _*_, _≤_, _<_}
+use Prim.Native.Nat.{ℕ, _+_, _-_, _*_, _≤_, _<_}
 use native.Mathlib.Omega.{arith}
 use native.Mathlib.Nat.{add-mul, zero-mul, mul-le-mul-right}
 use mathlib.Core.Path.{_≡_, refl, sym, ap, subst, _∙_}
@@ -19,11 +19,11 @@ use Rattle.disjunction.specs.Sets.{Maximal, MoreThan}
 use Rattle.disjunction.proofs.KeepingLaws as Kept
 use Rattle.disjunction.proofs.KeepingLaws.{none-jcc}
 use Rattle.rows.proofs.WorldLaws.{world-symmetric, rows-total}
-use Rattle.machine.specs.Machine.{State, keyAt, deepest, Says, aSet, finished, working, refused, Called, call}
+use Rattle.machine.specs.Machine.{State, keyAt, Says, aSet, finished, working, refused, Called, call}
 use Rattle.machine.specs.Runs.{Given, runOf, endedOf, keysIn, handed, sum}
 use Rattle.claims.specs.Demands.{Answered, Closes, Able}
 use Rattle.claims.proofs.Live.{W, listed, Live}
-use Rattle.claims.proofs.Calls.{takenKeys, Sound, Empty, ToSet, ToEnd, OnWay, Said, Went, record-maximal, called}
+use Rattle.claims.proofs.Calls.{takenKeys, Sound, ToSet, ToEnd, OnWay, Said, Went, record-maximal, called}
 
 module _ (cat : Catalogue) (cells : List ℕ) where
   abbrev pub run : List Given → State → List Called

@@ -3,18 +3,18 @@
 use Prim.Native.Nat.{ℕ, zero, suc, _+_}
 use native.Mathlib.Omega.{arith}
 use native.Mathlib.Nat.{zero-add, suc-add, add-assoc}
-use mathlib.Core.Path.{_≡_, refl, sym, ap, ap₂, subst, _∙_}
-use mathlib.Core.Bool.{true, false}
+use mathlib.Core.Path.{_≡_, refl, sym, ap, ap₂, _∙_}
+use mathlib.Core.Bool.{true}
 use mathlib.Core.List.{List, [], _∷_}
 use lib.ListN.{length, length-append}
 use borrow.Author.Tests.{eq-eqb, ne-eqb}
 use Rattle.tables.specs.declared.Catalogue.{Catalogue}
 use Rattle.tables.specs.Catalogues.{total}
 use Rattle.rows.specs.Named.{named}
-use Rattle.machine.specs.Machine.{State, Trial, done, full, damaged, trialOn, Says, aSet, finished, working, refused, Called, answer, counted, takenOf, keyDue, callFault, unlessMet, work, call}
+use Rattle.machine.specs.Machine.{State, done, full, damaged, trialOn, Says, aSet, finished, working, refused, Called, answer, counted, takenOf, keyDue, callFault, unlessMet, work, call}
 use Rattle.machine.specs.Runs.{Given, runOf, endedOf, keysIn, handed, sum, move, moveLooks, moves, looksIn}
 use Rattle.machine.proofs.WorkLaws.{handing, work-ends, work-hands, work-lost, work-trial, by-ways}
-use Rattle.claims.specs.Demands.{made, joined, goesOn}
+use Rattle.claims.specs.Demands.{made, goesOn}
 
 -- The rule's steps in one call.
 abbrev pub stepsOf : Called → ℕ

@@ -1,6 +1,6 @@
 -- The demands on a stream, stated over any stream: `begin` is its open, `step` its call, and a list of `Given` is a way to call it, so that a fraud is a
 -- stream that is shown not to meet them (proofs/Frauds). That the stream of document 01 meets them stands in proofs/Demanded. Assumes nothing.
-use Prim.Native.Nat.{ℕ, zero, suc, _+_, _*_, _≤_, _<_}
+use Prim.Native.Nat.{ℕ, _+_, _*_, _≤_, _<_}
 use mathlib.Core.Path.{_≡_}
 use mathlib.Core.Logic.{_⊎_, _↔_}
 use mathlib.Core.List.{List, [], _∷_, _++_, List·Memᴰ}

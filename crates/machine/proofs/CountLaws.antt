@@ -1,15 +1,15 @@
 -- Any call on any stream that fits, its store damaged or not: how large its counts can be. Induction over the ways of a call. Assumes nothing.
-use Prim.Native.Nat.{ℕ, zero, suc, _+_, _*_, _≤_, _<_}
+use Prim.Native.Nat.{ℕ, suc, _+_, _*_, _≤_, _<_}
 use native.Mathlib.Omega.{arith}
 use native.Mathlib.Nat.{suc-mul, mul-le-mul-right, mul-le-mul-left, le-trans}
-use mathlib.Core.Path.{_≡_, refl, sym, ap}
+use mathlib.Core.Path.{_≡_, refl, ap}
 use mathlib.Core.List.{List}
 use lib.ListN.{length}
 use Rattle.tables.specs.declared.Catalogue.{Catalogue}
 use Rattle.tables.specs.Catalogues.{total}
 use Rattle.tables.specs.Checks.{Lawful}
 use Rattle.tables.proofs.CatalogueLaws.{rows-few}
-use Rattle.machine.specs.Machine.{State, deepest, Says, aSet, finished, working, refused, Called, answer, counted, Fit, work}
+use Rattle.machine.specs.Machine.{State, deepest, finished, working, refused, Called, answer, Fit, work}
 use Rattle.machine.proofs.WorkLaws.{handing, by-ways}
 use Rattle.machine.proofs.LoopLaws.{piled}
 use Rattle.machine.proofs.TrialLaws.{trial-fit}

@@ -1,16 +1,16 @@
 -- Laws by which the code's loop meets the call, one for each way it goes: the budget is counted down, and the counts so far are piled on what the rest
 -- of the work comes to. The invariant is `work b₀ q₀ row ≡ piled trials tests looks (work b q row)`. Assumes nothing.
-use Prim.Native.Nat.{ℕ, zero, suc, _+_, _-_, _<_}
+use Prim.Native.Nat.{ℕ, suc, _+_, _-_, _<_}
 use native.Mathlib.Omega.{arith}
 use native.Mathlib.Nat.{zero-add, add-assoc}
 use mathlib.Core.Path.{_≡_, refl, sym, ap, _∙_}
-use mathlib.Core.Bool.{Bool, true, false}
+use mathlib.Core.Bool.{true, false}
 use mathlib.Core.List.{List}
 use Rattle.tables.specs.declared.Catalogue.{Catalogue}
 use Rattle.tables.specs.Catalogues.{total}
 use Rattle.rows.specs.Named.{named}
-use Rattle.machine.specs.Machine.{State, Trial, done, full, damaged, trialOn, Says, aSet, finished, working, refused, Called, answer, counted, afterTrial, takenOf, keyDue, paddedIn, work}
-use Rattle.machine.proofs.WorkLaws.{handing, work-ends, work-hands, work-lost, work-spent, work-trial}
+use Rattle.machine.specs.Machine.{State, Trial, done, full, damaged, trialOn, Says, aSet, finished, working, refused, Called, counted, afterTrial, takenOf, keyDue, paddedIn, work}
+use Rattle.machine.proofs.WorkLaws.{work-ends, work-hands, work-lost, work-spent, work-trial}
 
 -- a trials, t row tests and l looks before s.
 abbrev pub piled : ℕ → ℕ → ℕ → Called → Called

@@ -1,22 +1,22 @@
 -- The refusals before work, read one by one in their order, and what a call and open come to where one is met and where none is. Assumes nothing.
-use Prim.Native.Nat.{ℕ, zero, suc, _+_, _≤_, _<_}
+use Prim.Native.Nat.{ℕ, zero, suc, _≤_, _<_}
 use native.Mathlib.Omega.{arith}
 use native.Mathlib.Nat.{eq-zero-or-pos}
-use mathlib.Core.Path.{_≡_, refl, sym, ap, _∙_}
+use mathlib.Core.Path.{_≡_, refl, ap}
 use mathlib.Core.Logic.{_↔_, _⊎_, inl, inr, ⊎-elim}
 use mathlib.Core.Bool.{Bool, true, false, not, cond, _&&_, _||_}
 use mathlib.Core.List.{List}
 use lib.ListN.{length}
 use lib.Dec.{ltb, eqb}
-use borrow.Author.Tests.{ltb-true, ltb-false, lt-ltb, le-ltb, eqb-true, eqb-false, eq-eqb, ne-eqb}
-use Rattle.laws.proofs.TestLaws.{which, clash, not-yes}
+use borrow.Author.Tests.{ltb-true, ltb-false, lt-ltb, le-ltb, eqb-true, eq-eqb, ne-eqb}
+use Rattle.laws.proofs.TestLaws.{which, clash}
 use Rattle.keys.specs.Keys.{bitsPerRow, keyOf}
 use Rattle.tables.specs.declared.Catalogue.{Catalogue}
 use Rattle.tables.specs.Catalogues.{total}
-use Rattle.tables.specs.Checks.{Lawful, firstOf, catalogueFault}
-use Rattle.tables.proofs.CheckLaws.{first-some, first-none, first-clear, fault-lawful, lawful-fault}
+use Rattle.tables.specs.Checks.{Lawful, catalogueFault}
+use Rattle.tables.proofs.CheckLaws.{first-some, first-clear, fault-lawful, lawful-fault}
 use Rattle.store.specs.Store.{Store, storeIn, roomIn, filed}
-use Rattle.machine.specs.Machine.{State, Says, refused, Called, answer, Fit, unfit, callFault, unlessMet, work, call, zeros, Opened, openFault, unlessRefused, firstGrown, begun, opening}
+use Rattle.machine.specs.Machine.{State, refused, answer, Fit, unfit, callFault, unlessMet, work, call, zeros, openFault, unlessRefused, firstGrown, begun, opening}
 
 -- ---- 13
 
@@ -152,7 +152,10 @@ module _ (cat : Catalogue) (lent : ℕ) (q : Store) where
 
   pub open-free : Lawful cat lent → (0 < total cat → 0 < roomIn q) → openFault cat lent q ≡ 0
   unfolding openFault
-  open-free L h = rw (lawful-fault cat lent L, none-and (ltb 0 (total cat)) (eqb (roomIn q) 0) (λ e. ne-eqb (roomIn q) 0 (λ z. absurd (omega (arith, h (ltb-true 0 (total cat) e))))))
+  open-free L h = rw (lawful-fault cat lent L, none-and (ltb 0 (total cat)) (eqb (roomIn q) 0) (λ e. ne-eqb (roomIn q) 0 (some (ltb-true 0 (total cat) e))))
+    where
+      some : 0 < total cat → roomIn q ≡ 0 → ⊥
+      some n z = absurd (omega (arith, h n))
 
   -- And back: where none is met, the catalogue is lawful, and there is a record where there is a row.
   pub open-clear : openFault cat lent q ≡ 0 → Lawful cat lent × (0 < total cat → 0 < roomIn q)

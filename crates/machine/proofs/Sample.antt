@@ -1,10 +1,9 @@
 -- Document 01's input of 25 bytes, run by the definitions: the catalogue and the cells that it loads to, open, all calls until the end, and the same in
 -- a store that is too short. Assumes nothing.
 use Prim.Native.Nat.{ℕ}
-use native.Mathlib.Decide.{ℕ-discrete}
 use mathlib.Core.Path.{_≡_, refl}
 use mathlib.Core.List.{List, [], _∷_}
-use lib.ListN.{length, replicate}
+use lib.ListN.{replicate}
 use lib.Count.{ones}
 use Rattle.laws.specs.Tests.{any, all}
 use Rattle.laws.specs.Lists.{tab}
@@ -19,7 +18,7 @@ use Rattle.rows.specs.World.{touchesIn, fitsIn}
 use Rattle.rows.specs.Named.{missing, beyond, named}
 use Rattle.store.specs.Store as Store
 use Rattle.store.specs.Store.{linkOf, searchOf, filed, added, answerOf, storeAfter}
-use Rattle.machine.specs.Machine.{State, placed, offered, trialOn, Says, aSet, finished, working, refused, Called, handOut, dueOr, work, unfit, callFault, call, Opened, openFault, begun, opening}
+use Rattle.machine.specs.Machine.{placed, offered, trialOn, Says, aSet, finished, refused, Called, handOut, dueOr, work, unfit, callFault, call, Opened, openFault, begun, opening}
 use Rattle.machine.specs.Runs.{Given, runOf, handed, sum}
 
 -- "Input, 25 bytes": three tables over the attributes {0,1}, {1,2} and {0,2}, each with two rows.

@@ -2,17 +2,16 @@
 -- counts after it (`trial-bounded`). Assumes nothing.
 use Prim.Native.Nat.{ℕ, _+_, _-_, _*_, _≤_, _<_}
 use native.Mathlib.Omega.{arith}
-use mathlib.Core.Path.{_≡_, refl, sym, ap, ap₂, subst, _∙_}
+use mathlib.Core.Path.{_≡_, refl, sym, subst, _∙_}
 use mathlib.Core.Bool.{Bool, true, false, cond}
 use mathlib.Core.List.{List}
-use lib.ListN.{length}
 use lib.Dec.{ltb}
 use borrow.Author.Tests.{ltb-true}
 use Rattle.keys.specs.Keys.{bitsPerRow, keyOf}
 use Rattle.tables.specs.declared.Catalogue.{Catalogue}
 use Rattle.tables.specs.Catalogues as catalogues
 use Rattle.tables.specs.Catalogues.{total}
-use Rattle.disjunction.specs.Rule.{Place, rows, rowAt, trial}
+use Rattle.disjunction.specs.Rule.{rowAt, trial}
 use Rattle.disjunction.proofs.RowOrder.{rowAt-row}
 use Rattle.disjunction.proofs.Completeness.{trial-valid}
 use Rattle.rows.specs.World.{worldOf, setOf, placeOf}
@@ -26,7 +25,7 @@ use Rattle.store.specs.declared.Placed.{Placed}
 use Rattle.store.specs.declared.Placed.the-variants.{Known, Added, Full, Broken}
 use Rattle.store.proofs.LookLaws.{Inside}
 use Rattle.store.proofs.StoreLaws.{inside, room-added}
-use Rattle.machine.specs.Machine.{State, keyAt, Trial, done, full, damaged, raised, placed, offered, deepest, trialDue, trialOn, Fit}
+use Rattle.machine.specs.Machine.{State, keyAt, Trial, done, full, damaged, placed, offered, deepest, trialDue, trialOn, Fit}
 
 -- ---- from what the code has at hand
 

@@ -85,7 +85,8 @@ module _ (cat : Catalogue) (cells row : List ℕ) where
     unfolding dueOr handOut
     by-due b q o k = byNext (eqb (q .next) (total cat)) refl
       where
-        byKey : q .next ≡ total cat → (q .taken ≡ q .store .found → ⊥) → (x : Bool) → named cat (keyDue q) ≡ x → P b q (cond x (handing q) (answer (refused 14) q row))
+        byKey : q .next ≡ total cat → (q .taken ≡ q .store .found → ⊥) → (x : Bool) → named cat (keyDue q) ≡ x
+            → P b q (cond x (handing q) (answer (refused 14) q row))
         byKey e f true g = h .hands b q e f g
         byKey e f false g = h .lost b q e f g
 

@@ -16,7 +16,6 @@ use Rattle.disjunction.specs.Cells.{padded}
 use Rattle.rows.specs.World.{cellsIn, worldOf, setOf}
 use Rattle.rows.specs.Named.{named}
 use Rattle.store.specs.Store.{Store, storeIn, roomIn, searchOf, filed, answerOf, storeAfter}
-use Rattle.store.specs.declared.Looked.{Looked}
 use Rattle.store.specs.declared.Placed.{Placed}
 use Rattle.store.specs.declared.Placed.the-variants.{Known, Added, Full, Broken}
 
