@@ -50,26 +50,18 @@ module _ (cat : Catalogue) (q : State) where
 
       fit : unfit cat q ≡ false → Fit cat q
       fit h =
-          let (h5, f) = or-none _ (ltb 0 (q .store .found) && eqb (total cat) 0) h in
-          let (h4, e) = or-none _ (eqb (q .store .found) 0 && some-row) h5 in
-          let (h3, d) = or-none _ (eqb (q .taken) 0 && not (eqb (q .next) (total cat))) h4 in
-          let (h2, c) = or-none _ (ltb (total cat) (q .next)) h3 in
-          let (a, b) = or-none (ltb (roomIn (q .store)) (q .store .found)) (ltb (q .store .found) (q .taken)) h2 in
+          let (h5, f) = or-none _ _ h in
+          let (h4, e) = or-none _ _ h5 in
+          let (h3, d) = or-none _ _ h4 in
+          let (h2, c) = or-none _ _ h3 in
+          let (a, b) = or-none _ _ h2 in
           record {
-            room = ltb-false (roomIn (q .store)) (q .store .found) a;
-            taken = ltb-false (q .store .found) (q .taken) b;
-            next = ltb-false (total cat) (q .next) c;
-            begun = λ z. unequal (and-none (eqb (q .taken) 0) _ d (eq-eqb (q .taken) 0 z));
-            some = λ n.
-                ⊎-elim
-                (λ z. absurd (clash (lt-ltb 0 (total cat) n) (and-none (eqb (q .store .found) 0) some-row e (eq-eqb (q .store .found) 0 z))))
-                (λ p. p)
-                (eq-zero-or-pos (q .store .found));
-            none = λ z.
-                ⊎-elim
-                (λ y. y)
-                (λ p. absurd (clash (eq-eqb (total cat) 0 z) (and-none (ltb 0 (q .store .found)) (eqb (total cat) 0) f (lt-ltb 0 (q .store .found) p))))
-                (eq-zero-or-pos (q .store .found));
+            room = ltb-false _ _ a;
+            taken = ltb-false _ _ b;
+            next = ltb-false _ _ c;
+            begun = λ z. unequal (and-none _ _ d (eq-eqb _ _ z));
+            some = λ n. ⊎-elim (λ z. absurd (clash (lt-ltb _ _ n) (and-none _ _ e (eq-eqb _ _ z)))) (λ p. p) (eq-zero-or-pos (q .store .found));
+            none = λ z. ⊎-elim (λ y. y) (λ p. absurd (clash (eq-eqb _ _ z) (and-none _ _ f (lt-ltb _ _ p)))) (eq-zero-or-pos (q .store .found));
           }
 
       unmet : Fit cat q → unfit cat q ≡ false
@@ -97,7 +89,7 @@ module _ (cat : Catalogue) (q : State) where
 module _ (cat : Catalogue) (lent : ℕ) (q : State) (row : List ℕ) where
   pub call-catalogue : (catalogueFault cat lent ≡ 0 → ⊥) → callFault cat lent q row ≡ catalogueFault cat lent
   unfolding callFault
-  call-catalogue h = first-some (catalogueFault cat lent) (cond (unfit cat q) 13 (cond (ltb (length row) (cat .m)) 11 0)) h
+  call-catalogue h = first-some (catalogueFault cat lent) _ h
 
   pub call-unfit : Lawful cat lent → unfit cat q ≡ true → callFault cat lent q row ≡ 13
   unfolding callFault
@@ -144,7 +136,7 @@ module _ (cat : Catalogue) (cells : List ℕ) (b : ℕ) (q : State) (row : List 
 module _ (cat : Catalogue) (lent : ℕ) (q : Store) where
   pub open-catalogue : (catalogueFault cat lent ≡ 0 → ⊥) → openFault cat lent q ≡ catalogueFault cat lent
   unfolding openFault
-  open-catalogue h = first-some (catalogueFault cat lent) (cond (ltb 0 (total cat) && eqb (roomIn q) 0) 12 0) h
+  open-catalogue h = first-some (catalogueFault cat lent) _ h
 
   pub open-full : Lawful cat lent → 0 < total cat → roomIn q ≡ 0 → openFault cat lent q ≡ 12
   unfolding openFault

@@ -2,7 +2,7 @@
 -- counts after it (`trial-bounded`). Assumes nothing.
 use Prim.Native.Nat.{ℕ, _+_, _-_, _*_, _≤_, _<_}
 use native.Mathlib.Omega.{arith}
-use mathlib.Core.Path.{_≡_, refl, sym, subst, _∙_}
+use mathlib.Core.Path.{_≡_, refl, sym, ap₂, subst, _∙_}
 use mathlib.Core.Bool.{Bool, true, false, cond}
 use mathlib.Core.List.{List}
 use lib.Dec.{ltb}
@@ -68,7 +68,8 @@ module _ (cat : Catalogue) (cells : List ℕ) where
       → trialOn cat cells q ≡ placed q tests r (storeIn ks ls rs (foundAfter (q .store .found) r))
   unfolding trialOn
   offer-trial q key tests r ks ls rs h e k t o =
-      rw (e, row-place cat cells (q .next) h, sym k, sym t) (offer-placed (deepest cat) q key tests r ks ls rs o)
+      rw (e, row-place cat cells (q .next) h)
+      (ap₂ (λ (x y : ℕ). offered (deepest cat) q x y) (sym k) (sym t) ∙ offer-placed (deepest cat) q key tests r ks ls rs o)
 
 -- ---- what is known after it
 
@@ -106,12 +107,12 @@ module _ (cat : Catalogue) (cells : List ℕ) where
       byRoom p s l t x true f =
           let m : q .store .found < roomIn (q .store) = ltb-true (q .store .found) (roomIn (q .store)) f in
           let e = room-added (q .store) key p s in
-          record { next = refl; taken = refl; more = omega arith; within = λ _. omega arith; room = e; tests = t; looks = x }
+          record { next = refl; taken = refl; more = omega arith; within = λ _. omega arith; room = e; tests = omega arith; looks = omega arith }
       byRoom p s l t x false f = refl
 
       by : n ≤ cat .n * total cat → (a : Looked) → Inside (q .store .found) (deepest cat) a
           → Bounded cat q (placed q n (answerOf (q .store) a) (storeAfter (q .store) key a))
-      by t (Found p l) i = record { next = refl; taken = refl; more = omega arith; within = λ w. w; room = refl; tests = t; looks = i .1 }
+      by t (Found p l) i = record { next = refl; taken = refl; more = omega arith; within = λ w. w; room = refl; tests = omega arith; looks = omega (arith, i .1) }
       by t (Absent p s l) i = byRoom p s l t (i .1) (ltb (q .store .found) (roomIn (q .store))) refl
       by t (Damaged l) i = refl
 

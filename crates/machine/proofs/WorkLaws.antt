@@ -21,15 +21,17 @@ module _ (cat : Catalogue) (cells row : List ℕ) where
   unfolding dueOr
   due-ends q o e f = rw (eq-eqb (q .next) (total cat) e, eq-eqb (q .taken) (q .store .found) f)
 
-  due-hands : (q : State) (o : Called) → q .next ≡ total cat → (q .taken ≡ q .store .found → ⊥) → named cat (keyDue q) ≡ true
-      → dueOr cat cells q row o ≡ handing q
-  unfolding dueOr handOut
-  due-hands q o e f g = rw (eq-eqb (q .next) (total cat) e, ne-eqb (q .taken) (q .store .found) f, g)
+  hand-named : (q : State) → named cat (keyDue q) ≡ true → handOut cat cells q row ≡ handing q
+  unfolding handOut
+  hand-named q g = rw g
 
-  due-lost : (q : State) (o : Called) → q .next ≡ total cat → (q .taken ≡ q .store .found → ⊥) → named cat (keyDue q) ≡ false
-      → dueOr cat cells q row o ≡ answer (refused 14) q row
-  unfolding dueOr handOut
-  due-lost q o e f g = rw (eq-eqb (q .next) (total cat) e, ne-eqb (q .taken) (q .store .found) f, g)
+  hand-lost : (q : State) → named cat (keyDue q) ≡ false → handOut cat cells q row ≡ answer (refused 14) q row
+  unfolding handOut
+  hand-lost q g = rw g
+
+  due-hands : (q : State) (o : Called) → q .next ≡ total cat → (q .taken ≡ q .store .found → ⊥) → dueOr cat cells q row o ≡ handOut cat cells q row
+  unfolding dueOr
+  due-hands q o e f = rw (eq-eqb (q .next) (total cat) e, ne-eqb (q .taken) (q .store .found) f)
 
   due-not : (q : State) (o : Called) → (q .next ≡ total cat → ⊥) → dueOr cat cells q row o ≡ o
   unfolding dueOr
@@ -42,17 +44,18 @@ module _ (cat : Catalogue) (cells row : List ℕ) where
   work-ends zero q e f = due-ends q (answer working q row) e f
   work-ends (suc b) q e f = due-ends q (afterTrial (trialOn cat cells q) q row (λ p. work cat cells b p row)) e f
 
+  work-hand : (b : ℕ) (q : State) → q .next ≡ total cat → (q .taken ≡ q .store .found → ⊥) → work cat cells b q row ≡ handOut cat cells q row
+  unfolding work
+  work-hand zero q e f = due-hands q (answer working q row) e f
+  work-hand (suc b) q e f = due-hands q (afterTrial (trialOn cat cells q) q row (λ p. work cat cells b p row)) e f
+
   pub work-hands : (b : ℕ) (q : State) → q .next ≡ total cat → (q .taken ≡ q .store .found → ⊥) → named cat (keyDue q) ≡ true
       → work cat cells b q row ≡ handing q
-  unfolding work
-  work-hands zero q e f g = due-hands q (answer working q row) e f g
-  work-hands (suc b) q e f g = due-hands q (afterTrial (trialOn cat cells q) q row (λ p. work cat cells b p row)) e f g
+  work-hands b q e f g = work-hand b q e f ∙ hand-named q g
 
   pub work-lost : (b : ℕ) (q : State) → q .next ≡ total cat → (q .taken ≡ q .store .found → ⊥) → named cat (keyDue q) ≡ false
       → work cat cells b q row ≡ answer (refused 14) q row
-  unfolding work
-  work-lost zero q e f g = due-lost q (answer working q row) e f g
-  work-lost (suc b) q e f g = due-lost q (afterTrial (trialOn cat cells q) q row (λ p. work cat cells b p row)) e f g
+  work-lost b q e f g = work-hand b q e f ∙ hand-lost q g
 
   pub work-spent : (q : State) → (q .next ≡ total cat → ⊥) → work cat cells 0 q row ≡ answer working q row
   unfolding work
