@@ -4,3 +4,4 @@ pub mod TrialLaws
 pub mod CountLaws
 pub mod RefusalLaws
 pub mod Sample
+pub mod Edges

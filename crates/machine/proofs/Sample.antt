@@ -44,44 +44,44 @@ unfolding three threeCells first opening openFault begun catalogueFault sizeFaul
 open-says = (refl, refl)
 
 -- A call with all the trials that it can want, and a padded row of four cells, of which the last one stays.
-asked : Given
+abbrev pub asked : Given
 asked = record { budget = 30; row = 7 ∷ 7 ∷ 7 ∷ 7 ∷ [] }
 
 -- What calls hand out, and the sums of their counts.
-record Listing : Type 0 where
-  keys : List ℕ
-  trials : ℕ
-  tests : ℕ
-  looks : ℕ
+pub record Listing : Type 0 where
+  pub keys : List ℕ
+  pub trials : ℕ
+  pub tests : ℕ
+  pub looks : ℕ
 
-listing : List Called → Listing
+unfoldable pub listing : List Called → Listing
 listing l = record { keys = handed l; trials = sum (λ s. s .trials) l; tests = sum (λ s. s .tests) l; looks = sum (λ s. s .looks) l }
 
 -- What calls answer, and what their padded rows then hold.
-answers : List Called → List Says
+unfoldable pub answers : List Called → List Says
 answers [] = []
 answers (s ∷ l) = s .says ∷ answers l
 
-rowsAfter : List Called → List (List ℕ)
+unfoldable pub rowsAfter : List Called → List (List ℕ)
 rowsAfter [] = []
 rowsAfter (s ∷ l) = s .row ∷ rowsAfter l
 
-calls : ℕ → List Called
+unfoldable pub calls : ℕ → List Called
 calls c = runOf (call three threeCells) (asked ∷ asked ∷ asked ∷ asked ∷ []) (first c .after)
 
 -- "set 1 1 1", "set 2 0 2", "set 0 2 0"; "end 3 18 160 28".
-whole : listing (calls 4) ≡ record { keys = 65793 ∷ 131074 ∷ 512 ∷ []; trials = 18; tests = 160; looks = 28 }
-unfolding listing calls asked handed sum runOf call callFault work unfit dueOr handOut trialOn offered placed answerOf storeAfter added Store.named searchOf Store.walk linkOf three threeCells first opening openFault begun catalogueFault sizeFault tablesFault tableFault badScheme countFault firstCell rowStart rowsBefore named missing beyond rowsIn rowOf keyOf filed bitOf ones touchesIn fitsIn sharing matching same trial start piece joins membersBelow dropped stays tab extension grow walk rowTest near agrees absent member rowsBelow rowsTo alone any all padded codeBelow gives
+pub whole : listing (calls 4) ≡ record { keys = 65793 ∷ 131074 ∷ 512 ∷ []; trials = 18; tests = 160; looks = 28 }
+unfolding listing calls handed sum runOf call callFault work unfit dueOr handOut trialOn offered placed answerOf storeAfter added Store.named searchOf Store.walk linkOf three threeCells first opening openFault begun catalogueFault sizeFault tablesFault tableFault badScheme countFault firstCell rowStart rowsBefore named missing beyond rowsIn rowOf keyOf filed bitOf ones touchesIn fitsIn sharing matching same trial start piece joins membersBelow dropped stays tab extension grow walk rowTest near agrees absent member rowsBelow rowsTo alone any all padded codeBelow gives
 whole = refl
 
 -- "1 10 7", "2 20 -", "- 4294967306 9", as codes.
-padded-rows : (answers (calls 4) ≡ aSet ∷ aSet ∷ aSet ∷ finished ∷ [])
+pub padded-rows : (answers (calls 4) ≡ aSet ∷ aSet ∷ aSet ∷ finished ∷ [])
     × (rowsAfter (calls 4) ≡ (2 ∷ 11 ∷ 8 ∷ 7 ∷ []) ∷ (3 ∷ 21 ∷ 0 ∷ 7 ∷ []) ∷ (0 ∷ 4294967307 ∷ 10 ∷ 7 ∷ []) ∷ (7 ∷ 7 ∷ 7 ∷ 7 ∷ []) ∷ [])
-unfolding answers rowsAfter calls asked runOf call callFault work unfit dueOr handOut trialOn offered placed answerOf storeAfter added Store.named searchOf Store.walk linkOf three threeCells first opening openFault begun catalogueFault sizeFault tablesFault tableFault badScheme countFault firstCell rowStart rowsBefore named missing beyond rowsIn rowOf keyOf filed bitOf ones touchesIn fitsIn sharing matching same trial start piece joins membersBelow dropped stays tab extension grow walk rowTest near agrees absent member rowsBelow rowsTo alone any all padded codeBelow gives
+unfolding answers rowsAfter calls runOf call callFault work unfit dueOr handOut trialOn offered placed answerOf storeAfter added Store.named searchOf Store.walk linkOf three threeCells first opening openFault begun catalogueFault sizeFault tablesFault tableFault badScheme countFault firstCell rowStart rowsBefore named missing beyond rowsIn rowOf keyOf filed bitOf ones touchesIn fitsIn sharing matching same trial start piece joins membersBelow dropped stays tab extension grow walk rowTest near agrees absent member rowsBelow rowsTo alone any all padded codeBelow gives
 padded-rows = (refl, refl)
 
 -- A store of two records: one set is handed out, and the fourth trial on it finds a third set. It is not counted, and every later call meets it again.
-short : (answers (calls 2) ≡ aSet ∷ refused 12 ∷ refused 12 ∷ refused 12 ∷ [])
+pub short : (answers (calls 2) ≡ aSet ∷ refused 12 ∷ refused 12 ∷ refused 12 ∷ [])
     × (listing (calls 2) ≡ record { keys = 65793 ∷ []; trials = 3; tests = 24; looks = 3 })
-unfolding answers listing calls asked handed sum runOf call callFault work unfit dueOr handOut trialOn offered placed answerOf storeAfter added Store.named searchOf Store.walk linkOf three threeCells first opening openFault begun catalogueFault sizeFault tablesFault tableFault badScheme countFault firstCell rowStart rowsBefore named missing beyond rowsIn rowOf keyOf filed bitOf ones touchesIn fitsIn sharing matching same trial start piece joins membersBelow dropped stays tab extension grow walk rowTest near agrees absent member rowsBelow rowsTo alone any all padded codeBelow gives
+unfolding answers listing calls handed sum runOf call callFault work unfit dueOr handOut trialOn offered placed answerOf storeAfter added Store.named searchOf Store.walk linkOf three threeCells first opening openFault begun catalogueFault sizeFault tablesFault tableFault badScheme countFault firstCell rowStart rowsBefore named missing beyond rowsIn rowOf keyOf filed bitOf ones touchesIn fitsIn sharing matching same trial start piece joins membersBelow dropped stays tab extension grow walk rowTest near agrees absent member rowsBelow rowsTo alone any all padded codeBelow gives
 short = (refl, refl)

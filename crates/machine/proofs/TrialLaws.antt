@@ -1,8 +1,9 @@
--- One trial, of any store, a damaged one too: what the code has at hand gives it (`offer-trial`, `trial-lost`), and what is known of the stream and the
--- counts after it (`trial-bounded`). Assumes nothing.
+-- One trial, of any store, a damaged one too: what the code has at hand gives it (`trial-lost`, `trial-known`, `trial-added`, `trial-full`,
+-- `trial-broken`), and what is known of the stream and the counts after it (`trial-fit`). Assumes nothing.
 use Prim.Native.Nat.{ℕ, _+_, _-_, _*_, _≤_, _<_}
 use native.Mathlib.Omega.{arith}
-use mathlib.Core.Path.{_≡_, refl, sym, ap₂, subst, _∙_}
+use mathlib.Core.Path.{_≡_, refl, sym, ap, ap₂, subst, _∙_}
+use mathlib.Core.Logic.{_⊎_, inl, inr, ⊎-elim}
 use mathlib.Core.Bool.{Bool, true, false, cond}
 use mathlib.Core.List.{List}
 use lib.Dec.{ltb}
@@ -11,21 +12,21 @@ use Rattle.keys.specs.Keys.{bitsPerRow, keyOf}
 use Rattle.tables.specs.declared.Catalogue.{Catalogue}
 use Rattle.tables.specs.Catalogues as catalogues
 use Rattle.tables.specs.Catalogues.{total}
-use Rattle.disjunction.specs.Rule.{rowAt, trial}
+use Rattle.disjunction.specs.Rule.{Place, rowAt, Grown, extension, alone, trial}
 use Rattle.disjunction.proofs.RowOrder.{rowAt-row}
 use Rattle.disjunction.proofs.Completeness.{trial-valid}
 use Rattle.rows.specs.World.{worldOf, setOf, placeOf}
 use Rattle.rows.specs.Named.{named}
 use Rattle.rows.proofs.WorldLaws.{world-symmetric, rows-total, row-place}
 use Rattle.rows.proofs.NamedLaws.{named-iff, named-valid}
-use Rattle.store.specs.Store.{Store, storeIn, roomIn, searchOf, added, filed, answerOf, storeAfter, OfferPost}
+use Rattle.store.specs.Store.{Store, storeIn, roomIn, searchOf, added, filed, answerOf, storeAfter, Holds, OfferPost}
 use Rattle.store.specs.declared.Looked.{Looked}
 use Rattle.store.specs.declared.Looked.the-variants.{Found, Absent, Damaged}
 use Rattle.store.specs.declared.Placed.{Placed}
 use Rattle.store.specs.declared.Placed.the-variants.{Known, Added, Full, Broken}
 use Rattle.store.proofs.LookLaws.{Inside}
-use Rattle.store.proofs.StoreLaws.{inside, room-added}
-use Rattle.machine.specs.Machine.{State, keyAt, Trial, done, full, damaged, placed, offered, deepest, trialDue, trialOn, Fit}
+use Rattle.store.proofs.StoreLaws.{inside, refused-stays, room-added}
+use Rattle.machine.specs.Machine.{State, stateIn, keyAt, Trial, done, full, damaged, placed, offered, deepest, trialDue, trialOn, Fit, firstGrown}
 
 -- ---- from what the code has at hand
 
@@ -54,7 +55,18 @@ offer-placed deepest q key tests r ks ls rs o =
     let a = searchOf (q .store) key deepest in
     rw (o .answer, o .after .keys, o .after .left, o .after .right, sym (found-after (q .store) key a)) refl
 
+-- A refused offer has left the three lists as they were.
+offer-stays : (q : Store) (key deepest : ℕ) (r : Placed) (ks ls rs : List ℕ) → OfferPost q key deepest r ks ls rs → (r ≡ Full) ⊎ (r ≡ Broken)
+    → Holds ks ls rs q
+offer-stays q key deepest r ks ls rs o f =
+    let a = searchOf q key deepest in
+    subst (Holds ks ls rs) (refused-stays q key a (⊎-elim (λ e. inl (sym (o .answer) ∙ e)) (λ e. inr (sym (o .answer) ∙ e)) f)) (o .after)
+
 module _ (cat : Catalogue) (cells : List ℕ) where
+  -- The set that the trial comes to, from the row that the code has.
+  abbrev pub trialHad : State → Grown
+  trialHad q = trial (worldOf cat cells) (setOf cat (keyAt q (q .taken - 1))) (placeOf (catalogues.rowAt cat (q .next)))
+
   -- The key of the set tried on fails 14's test.
   pub trial-lost : (q : State) → named cat (keyAt q (q .taken - 1)) ≡ false → trialOn cat cells q ≡ damaged
   unfolding trialOn
@@ -62,14 +74,42 @@ module _ (cat : Catalogue) (cells : List ℕ) where
 
   -- It passes: the code has the row at place next row, the key of what the trial came to, its row tests, and the offer's promise.
   pub offer-trial : (q : State) (key tests : ℕ) (r : Placed) (ks ls rs : List ℕ) → q .next < total cat → named cat (keyAt q (q .taken - 1)) ≡ true
-      → key ≡ keyOf bitsPerRow (trial (worldOf cat cells) (setOf cat (keyAt q (q .taken - 1))) (placeOf (catalogues.rowAt cat (q .next))) .rows)
-      → tests ≡ trial (worldOf cat cells) (setOf cat (keyAt q (q .taken - 1))) (placeOf (catalogues.rowAt cat (q .next))) .tests
+      → key ≡ keyOf bitsPerRow (trialHad q .rows)
+      → tests ≡ trialHad q .tests
       → OfferPost (q .store) key (deepest cat) r ks ls rs
       → trialOn cat cells q ≡ placed q tests r (storeIn ks ls rs (foundAfter (q .store .found) r))
   unfolding trialOn
   offer-trial q key tests r ks ls rs h e k t o =
       rw (e, row-place cat cells (q .next) h)
       (ap₂ (λ (x y : ℕ). offered (deepest cat) q x y) (sym k) (sym t) ∙ offer-placed (deepest cat) q key tests r ks ls rs o)
+
+  -- The same by what the offer came to. A refused one has left the store as it was.
+  module _ (q : State) (key tests : ℕ) (h : q .next < total cat) (e : named cat (keyAt q (q .taken - 1)) ≡ true)
+      (k : key ≡ keyOf bitsPerRow (trialHad q .rows)) (t : tests ≡ trialHad q .tests)
+      (r : Placed) (ks ls rs : List ℕ) (o : OfferPost (q .store) key (deepest cat) r ks ls rs) where
+    by-placed : (a : Placed) → r ≡ a → trialOn cat cells q ≡ placed q tests a (storeIn ks ls rs (foundAfter (q .store .found) a))
+    by-placed a f = offer-trial q key tests r ks ls rs h e k t o ∙ ap (λ (x : Placed). placed q tests x (storeIn ks ls rs (foundAfter (q .store .found) x))) f
+
+    pub trial-known : (n : ℕ) → r ≡ Known n → trialOn cat cells q ≡ done (stateIn ks ls rs (q .store .found) (q .taken) (q .next + 1)) tests n
+    unfolding placed
+    trial-known n f = by-placed (Known n) f
+
+    pub trial-added : (n : ℕ) → r ≡ Added n → trialOn cat cells q ≡ done (stateIn ks ls rs (q .store .found + 1) (q .taken) (q .next + 1)) tests n
+    unfolding placed
+    trial-added n f = by-placed (Added n) f
+
+    pub trial-full : r ≡ Full → (trialOn cat cells q ≡ full) × Holds ks ls rs (q .store)
+    unfolding placed
+    trial-full f = (by-placed Full f, offer-stays (q .store) key (deepest cat) r ks ls rs o (inl f))
+
+    pub trial-broken : r ≡ Broken → (trialOn cat cells q ≡ damaged) × Holds ks ls rs (q .store)
+    unfolding placed
+    trial-broken f = (by-placed Broken f, offer-stays (q .store) key (deepest cat) r ks ls rs o (inr f))
+
+  -- Open's first set, from the row that the code has.
+  pub first-row : 0 < total cat
+      → firstGrown cat cells ≡ extension (worldOf cat cells) (alone (worldOf cat cells) (placeOf (catalogues.rowAt cat 0)))
+  first-row h = ap (λ (s : Place). extension (worldOf cat cells) (alone (worldOf cat cells) s)) (row-place cat cells 0 h)
 
 -- ---- what is known after it
 
