@@ -69,19 +69,12 @@ rowsAfter (s ∷ l) = s .row ∷ rowsAfter l
 unfoldable pub calls : ℕ → List Called
 calls c = runOf (call three threeCells) (asked ∷ asked ∷ asked ∷ asked ∷ []) (first c .after)
 
--- "set 1 1 1", "set 2 0 2", "set 0 2 0"; "end 3 18 160 28".
-pub whole : listing (calls 4) ≡ record { keys = 65793 ∷ 131074 ∷ 512 ∷ []; trials = 18; tests = 160; looks = 28 }
-unfolding listing calls handed sum runOf call callFault work unfit dueOr handOut trialOn offered placed answerOf storeAfter added Store.named searchOf Store.walk linkOf three threeCells first opening openFault begun catalogueFault sizeFault tablesFault tableFault badScheme countFault firstCell rowStart rowsBefore named missing beyond rowsIn rowOf keyOf filed bitOf ones touchesIn fitsIn sharing matching same trial start piece joins membersBelow dropped stays tab extension grow walk rowTest near agrees absent member rowsBelow rowsTo alone any all padded codeBelow gives
-whole = refl
-
--- "1 10 7", "2 20 -", "- 4294967306 9", as codes.
-pub padded-rows : (answers (calls 4) ≡ aSet ∷ aSet ∷ aSet ∷ finished ∷ [])
+-- "set 1 1 1", "set 2 0 2", "set 0 2 0"; "end 3 18 160 28"; and the rows "1 10 7", "2 20 -", "- 4294967306 9", as codes.
+-- In a store of two records one set is handed out, and the fourth trial on it finds a third one: it is not counted, and every later call meets it again.
+pub sample-runs : (listing (calls 4) ≡ record { keys = 65793 ∷ 131074 ∷ 512 ∷ []; trials = 18; tests = 160; looks = 28 })
+    × (answers (calls 4) ≡ aSet ∷ aSet ∷ aSet ∷ finished ∷ [])
     × (rowsAfter (calls 4) ≡ (2 ∷ 11 ∷ 8 ∷ 7 ∷ []) ∷ (3 ∷ 21 ∷ 0 ∷ 7 ∷ []) ∷ (0 ∷ 4294967307 ∷ 10 ∷ 7 ∷ []) ∷ (7 ∷ 7 ∷ 7 ∷ 7 ∷ []) ∷ [])
-unfolding answers rowsAfter calls runOf call callFault work unfit dueOr handOut trialOn offered placed answerOf storeAfter added Store.named searchOf Store.walk linkOf three threeCells first opening openFault begun catalogueFault sizeFault tablesFault tableFault badScheme countFault firstCell rowStart rowsBefore named missing beyond rowsIn rowOf keyOf filed bitOf ones touchesIn fitsIn sharing matching same trial start piece joins membersBelow dropped stays tab extension grow walk rowTest near agrees absent member rowsBelow rowsTo alone any all padded codeBelow gives
-padded-rows = (refl, refl)
-
--- A store of two records: one set is handed out, and the fourth trial on it finds a third set. It is not counted, and every later call meets it again.
-pub short : (answers (calls 2) ≡ aSet ∷ refused 12 ∷ refused 12 ∷ refused 12 ∷ [])
     × (listing (calls 2) ≡ record { keys = 65793 ∷ []; trials = 3; tests = 24; looks = 3 })
-unfolding answers listing calls handed sum runOf call callFault work unfit dueOr handOut trialOn offered placed answerOf storeAfter added Store.named searchOf Store.walk linkOf three threeCells first opening openFault begun catalogueFault sizeFault tablesFault tableFault badScheme countFault firstCell rowStart rowsBefore named missing beyond rowsIn rowOf keyOf filed bitOf ones touchesIn fitsIn sharing matching same trial start piece joins membersBelow dropped stays tab extension grow walk rowTest near agrees absent member rowsBelow rowsTo alone any all padded codeBelow gives
-short = (refl, refl)
+    × (answers (calls 2) ≡ aSet ∷ refused 12 ∷ refused 12 ∷ refused 12 ∷ [])
+unfolding answers rowsAfter sum handed listing calls runOf call callFault work unfit dueOr handOut trialOn offered placed answerOf storeAfter added Store.named searchOf Store.walk linkOf three threeCells first opening openFault begun catalogueFault sizeFault tablesFault tableFault badScheme countFault firstCell rowStart rowsBefore named missing beyond rowsIn rowOf keyOf filed bitOf ones touchesIn fitsIn sharing matching same trial start piece joins membersBelow dropped stays tab extension grow walk rowTest near agrees absent member rowsBelow rowsTo alone any all padded codeBelow gives
+sample-runs = (refl, refl, refl, refl, refl)
