@@ -2,3 +2,4 @@ pub mod ListLaws
 pub mod TestLaws
 pub mod MemberLaws
 pub mod DistinctLaws
+pub mod TabLaws

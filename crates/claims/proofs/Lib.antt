@@ -1,0 +1,11 @@
+pub mod Live
+pub mod Calls
+pub mod Opens
+pub mod Exact
+pub mod Runs
+pub mod Steps
+pub mod Holding
+pub mod Demanded
+pub mod Copies
+pub mod Longers
+pub mod Frauds

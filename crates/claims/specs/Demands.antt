@@ -1,0 +1,229 @@
+-- The demands on a stream, stated over any stream: `begin` is its open, `step` its call, and a list of `Given` is a way to call it, so that a fraud is a
+-- stream that is shown not to meet them (proofs/Frauds). That the stream of document 01 meets them stands in proofs/Demanded. Assumes nothing.
+use Prim.Native.Nat.{ℕ, _+_, _*_, _≤_, _<_}
+use mathlib.Core.Path.{_≡_}
+use mathlib.Core.Logic.{_⊎_, _↔_}
+use mathlib.Core.List.{List, [], _∷_, _++_, List·Memᴰ}
+use lib.ListN.{length, getD, take, drop}
+use Rattle.laws.specs.Distinct.{Distinct}
+use Rattle.keys.specs.Keys.{bitsPerRow, keyOf}
+use Rattle.tables.specs.declared.Catalogue.{Catalogue}
+use Rattle.tables.specs.Catalogues.{total}
+use Rattle.tables.specs.Checks.{Lawful, catalogueFault}
+use Rattle.disjunction.specs.Sets.{Maximal, MoreThan}
+use Rattle.disjunction.specs.Cells.{Embedding}
+use Rattle.disjunction.specs.Keeping as Sets
+use Rattle.disjunction.specs.Keeping.{listOpen, listMoves, testsIn}
+use Rattle.rows.specs.World.{cellsIn, worldOf, setOf}
+use Rattle.store.specs.Store.{Store, storeIn, roomIn}
+use Rattle.store.specs.Store as Store
+use Rattle.machine.specs.Machine.{State, keyAt, deepest, Says, aSet, finished, working, refused, Called, answer, Fit, callFault, call, zeros, Opened, opening}
+use Rattle.machine.specs.Runs.{Given, runOf, endedOf, handed, sum, moves, looksIn}
+
+-- ---- demand 1: the refusals, "by the exact conditions above"
+
+pub record Demand1 (cat : Catalogue) (cells : List ℕ) (begin : List ℕ → List ℕ → List ℕ → Opened) (step : ℕ → State → List ℕ → Called) : Type 0 where
+  -- Open refuses nothing exactly where the catalogue has no fault and the store, if there is a row, a record;
+  pub opens : (keys left right : List ℕ)
+      → (begin keys left right .refusal ≡ 0) ↔ (Lawful cat (length cells) × (0 < total cat → 0 < roomIn (storeIn keys left right 0)))
+  -- else its refusal is the catalogue's, or 12 where only the record is missing.
+  pub faults : (keys left right : List ℕ) → (catalogueFault cat (length cells) ≡ 0 → ⊥) → begin keys left right .refusal ≡ catalogueFault cat (length cells)
+  pub full : (keys left right : List ℕ) → Lawful cat (length cells)
+      → (begin keys left right .refusal ≡ 12) ↔ ((0 < total cat) × (roomIn (storeIn keys left right 0) ≡ 0))
+  -- "Refused, it gives a record of zeros and writes nothing."
+  pub zeroed : (keys left right : List ℕ) → (begin keys left right .refusal ≡ 0 → ⊥)
+      → (begin keys left right .after ≡ zeros keys left right) × (begin keys left right .tests ≡ 0)
+  -- A call, whatever the record and the store: "checks the catalogue as open does, then 13, then 11. These change nothing"; "the counts are 0";
+  pub refuses : (b : ℕ) (q : State) (row : List ℕ) → (callFault cat (length cells) q row ≡ 0 → ⊥)
+      → step b q row ≡ answer (refused (callFault cat (length cells) q row)) q row
+  -- where the catalogue has no fault, the record fits and the row is long enough, "12 and 14 may then be met", and no other.
+  pub works : (b : ℕ) (q : State) (row : List ℕ) → Lawful cat (length cells) → Fit cat q → cat .m ≤ length row
+      → (r : ℕ) → step b q row .says ≡ refused r → (r ≡ 12) ⊎ (r ≡ 14)
+  -- "Only *set* writes the padded row; otherwise the key given is 0."
+  pub quiet : (b : ℕ) (q : State) (row : List ℕ) → (step b q row .says ≡ aSet → ⊥) → (step b q row .key ≡ 0) × (step b q row .row ≡ row)
+
+-- ---- words
+
+-- Some call answered a.
+abbrev pub Answered : Says → List Called → Type 0
+Answered a l = (s : Called) × List·Memᴰ s l × (s .says ≡ a)
+
+-- A set was handed out, or the end was told.
+abbrev pub Closes : Says → Type 0
+Closes a = (a ≡ aSet) ⊎ (a ≡ finished)
+
+-- Calls that can get on: each may make a trial, and lends a row that is long enough.
+abbrev pub Able : Catalogue → List Given → Type 0
+Able cat gs = (g : Given) → List·Memᴰ g gs → (0 < g .budget) × (cat .m ≤ length (g .row))
+
+-- The rule's steps that calls have made: trials, and sets handed out.
+abbrev pub made : List Called → ℕ
+made l = sum (λ s. s .trials) l + length (handed l)
+
+-- "Rightly padded": `after` is the lent row `before` with document 000's embedding of the key's set in its front; cells from m on stay.
+pub record Padded (cat : Catalogue) (cells : List ℕ) (key : ℕ) (before after : List ℕ) : Type 0 where
+  pub front : Embedding (cellsIn cat cells) (setOf cat key) (take (cat .m) after)
+  pub rest : drop (cat .m) after ≡ drop (cat .m) before
+
+-- The store holds the sets of z in their order, and the record says the same as z.
+pub record Holds (q : State) (z : Sets.State) : Type 0 where
+  pub found : q .store .found ≡ length (z .sets)
+  pub taken : q .taken ≡ z .taken
+  pub next : q .next ≡ z .next
+  pub keys : (p : ℕ) → p < q .store .found → keyAt q p ≡ keyOf bitsPerRow (getD (z .sets) p [])
+
+-- Call s, and call u after it where s has spent its budget, as one call.
+abbrev pub joined : Called → Called → Called
+joined s u =
+    record {
+      says = u .says;
+      key = u .key;
+      trials = s .trials + u .trials;
+      tests = s .tests + u .tests;
+      looks = s .looks + u .looks;
+      after = u .after;
+      row = u .row;
+    }
+
+abbrev pub goesOn : Says → Called → Called → Called
+goesOn working s u = joined s u
+goesOn aSet s u = s
+goesOn finished s u = s
+goesOn (refused r) s u = s
+
+module _ (cat : Catalogue) (cells : List ℕ) where
+  -- ---- demand 2
+
+  pub record Demand2 (step : ℕ → State → List ℕ → Called) (q : State) : Type 0 where
+    -- "Cut short, it has handed out only such sets,"
+    pub only : (gs : List Given) (k : ℕ) → List·Memᴰ k (handed (runOf step gs q)) → (T : List ℕ) × Maximal (worldOf cat cells) T × (k ≡ keyOf bitsPerRow T)
+    -- "none twice."
+    pub once : (gs : List Given) → Distinct (handed (runOf step gs q))
+    -- "Drained, it hands out exactly the maximal join-consistent connected row sets, each once": with the two above, every one of them
+    pub every : (gs : List Given) → Answered finished (runOf step gs q) → (T : List ℕ) → Maximal (worldOf cat cells) T
+        → List·Memᴰ (keyOf bitsPerRow T) (handed (runOf step gs q))
+    -- (a key tells its set)
+    pub named : (T : List ℕ) → Maximal (worldOf cat cells) T → setOf cat (keyOf bitsPerRow T) ≡ T
+    -- ", each rightly padded."
+    pub padded : (gs : List Given) (b : ℕ) (row : List ℕ) → step b (endedOf step gs q) row .says ≡ aSet
+        → Padded cat cells (step b (endedOf step gs q) row .key) row (step b (endedOf step gs q) row .row)
+
+  -- ---- demand 3
+
+  -- "Exactly N trials, at most n x N x N row tests and N x (8n + 1) store looks."
+  pub record Gap (l : List Called) : Type 0 where
+    pub trials : sum (λ s. s .trials) l ≡ total cat
+    pub tests : sum (λ s. s .tests) l ≤ cat .n * total cat * total cat
+    pub looks : sum (λ s. s .looks) l ≤ total cat * (deepest cat + 1)
+
+  -- c is how many records the store has room for.
+  pub record Demand3 (step : ℕ → State → List ℕ → Called) (c : ℕ) (q : State) : Type 0 where
+    -- "No one else touches tables, record or store": then the record fits, and no refusal is met but 12, and 11 where the lent row is too short.
+    pub fit : (gs : List Given) → Fit cat (endedOf step gs q)
+    pub sound : (gs : List Given) (b : ℕ) (row : List ℕ) (r : ℕ) → step b (endedOf step gs q) row .says ≡ refused r
+        → (r ≡ 12) ⊎ ((r ≡ 11) × (length row < cat .m))
+    -- Before the first set, or the end where there is none, lies no trial: every first call tells it.
+    pub first : (b : ℕ) (row : List ℕ) → cat .m ≤ length row → Closes (step b q row .says) × (step b q row .trials ≡ 0)
+    -- "From one set to the next, or to the end, lie exactly ..": calls `es` came before, `a` handed out a set, none of `gs` closed, and the last did.
+    pub between : (es : List Given) (a : Given) (gs : List Given) (b : Given)
+        → step (a .budget) (endedOf step es q) (a .row) .says ≡ aSet
+        → ((s : Called) → List·Memᴰ s (runOf step gs (step (a .budget) (endedOf step es q) (a .row) .after)) → Closes (s .says) → ⊥)
+        → Closes (step (b .budget) (endedOf step gs (step (a .budget) (endedOf step es q) (a .row) .after)) (b .row) .says)
+        → Gap (runOf step (gs ++ (b ∷ [])) (step (a .budget) (endedOf step es q) (a .row) .after))
+    -- "After every trial the store holds what the rule says": the rule's steps decide it, not the budgets; a call of a + b is one of a, then one of b;
+    pub kept : (gs : List Given) → endedOf step gs q ≡ moves cat cells (made (runOf step gs q)) q
+    pub split : (gs : List Given) (a b : ℕ) (row : List ℕ)
+        → step (a + b) (endedOf step gs q) row
+        ≡ goesOn (step a (endedOf step gs q) row .says) (step a (endedOf step gs q) row) (step b (step a (endedOf step gs q) row .after) row)
+    -- on sets alone: it holds those that the rule finds, in the order in which it finds them,
+    pub held : (gs : List Given) → Holds (endedOf step gs q) (listMoves (worldOf cat cells) (made (runOf step gs q)) (listOpen (worldOf cat cells)))
+    -- each of them maximal, none twice.
+    pub records : (gs : List Given) (p : ℕ) → p < endedOf step gs q .store .found
+        → (T : List ℕ) × Maximal (worldOf cat cells) T × (keyAt (endedOf step gs q) p ≡ keyOf bitsPerRow T)
+    pub apart : (gs : List Given) (i j : ℕ) → i < endedOf step gs q .store .found → j < endedOf step gs q .store .found
+        → keyAt (endedOf step gs q) i ≡ keyAt (endedOf step gs q) j → i ≡ j
+    -- "One invents its counts: they equal the rule's row tests and looks."
+    pub tested : (gs : List Given)
+        → sum (λ s. s .tests) (runOf step gs q) ≡ testsIn (worldOf cat cells) (made (runOf step gs q)) (listOpen (worldOf cat cells))
+    pub looked : (gs : List Given) → sum (λ s. s .looks) (runOf step gs q) ≡ looksIn cat cells (made (runOf step gs q)) q
+    -- "With a store of fixed size, a drain meets 'full' exactly when there are more maximal sets than records."
+    pub full-more : (gs : List Given) → Answered (refused 12) (runOf step gs q) → MoreThan (worldOf cat cells) c
+    pub more-never : (gs : List Given) → MoreThan (worldOf cat cells) c → Answered finished (runOf step gs q) → ⊥
+    pub full-exactly : (gs : List Given) → Able cat gs → c * (total cat + 1) < length gs
+        → Answered (refused 12) (runOf step gs q) ↔ MoreThan (worldOf cat cells) c
+    -- (a drain ends: so many calls that can get on are enough)
+    pub drains : (gs : List Given) → Able cat gs → c * (total cat + 1) < length gs
+        → Answered finished (runOf step gs q) ⊎ Answered (refused 12) (runOf step gs q)
+
+-- ---- a longer store
+
+-- What the caller sees of a call: all but the store.
+pub record Seen : Type 0 where
+  pub says : Says
+  pub key : ℕ
+  pub trials : ℕ
+  pub tests : ℕ
+  pub looks : ℕ
+  pub found : ℕ
+  pub taken : ℕ
+  pub next : ℕ
+  pub row : List ℕ
+
+abbrev pub seen : Called → Seen
+seen s =
+    record {
+      says = s .says;
+      key = s .key;
+      trials = s .trials;
+      tests = s .tests;
+      looks = s .looks;
+      found = s .after .store .found;
+      taken = s .after .taken;
+      next = s .after .next;
+      row = s .row;
+    }
+
+unfoldable pub sight : List Called → List Seen
+sight [] = []
+sight (s ∷ l) = seen s ∷ sight l
+
+-- r has q's record and the records of its store, in a store of any size.
+pub record Copy (q r : State) : Type 0 where
+  pub store : Store.Copy (q .store) (r .store)
+  pub taken : r .taken ≡ q .taken
+  pub next : r .next ≡ q .next
+
+-- "After 12 the caller may copy the records to a longer store and go on", as if it had been that long from the start. q is what open gave on the short
+-- store, q' what it gave on the long one, r the copy after the calls gs.
+pub record Longer (step : ℕ → State → List ℕ → Called) (q q' : State) : Type 0 where
+  -- The long store gets as far, in trials and sets, as the short one got;
+  pub reached : (gs : List Given) → (es : List Given) × (made (runOf step es q') ≡ made (runOf step gs q))
+  -- by whatever calls es it got there, the copy goes on as it does, and stays its copy.
+  pub goes : (gs es : List Given) → made (runOf step es q') ≡ made (runOf step gs q)
+      → (r : State) → Copy (endedOf step gs q) r → roomIn (r .store) ≡ roomIn (q' .store)
+      → (hs : List Given) → sight (runOf step hs r) ≡ sight (runOf step hs (endedOf step es q'))
+  pub copied : (gs es : List Given) → made (runOf step es q') ≡ made (runOf step gs q)
+      → (r : State) → Copy (endedOf step gs q) r → roomIn (r .store) ≡ roomIn (q' .store)
+      → (hs : List Given) → Copy (endedOf step hs (endedOf step es q')) (endedOf step hs r)
+
+-- ---- all together, of the stream of document 01
+
+module _ (cat : Catalogue) (cells : List ℕ) where
+  -- Wherever open gives no refusal, demands 2 and 3 hold of the calls after it.
+  abbrev pub Demands : Type 0
+  Demands =
+      (keys left right : List ℕ) → opening cat cells keys left right .refusal ≡ 0
+      → Demand2 cat cells (call cat cells) (opening cat cells keys left right .after)
+      × Demand3 cat cells (call cat cells) (roomIn (storeIn keys left right 0)) (opening cat cells keys left right .after)
+
+  -- Open meets 12 exactly where there are more maximal sets than records, which are none.
+  abbrev pub OpenFull : Type 0
+  OpenFull =
+      (keys left right : List ℕ) → Lawful cat (length cells)
+      → (opening cat cells keys left right .refusal ≡ 12) ↔ ((roomIn (storeIn keys left right 0) ≡ 0) × MoreThan (worldOf cat cells) 0)
+
+  abbrev pub Longers : Type 0
+  Longers =
+      (keys left right keys' left' right' : List ℕ) → opening cat cells keys left right .refusal ≡ 0 → opening cat cells keys' left' right' .refusal ≡ 0
+      → roomIn (storeIn keys left right 0) ≤ roomIn (storeIn keys' left' right' 0)
+      → Longer (call cat cells) (opening cat cells keys left right .after) (opening cat cells keys' left' right' .after)

@@ -1,0 +1,71 @@
+-- Any call on any stream that fits, its store damaged or not: how large its counts can be. Induction over the ways of a call. Assumes nothing.
+use Prim.Native.Nat.{ℕ, suc, _+_, _*_, _≤_, _<_}
+use native.Mathlib.Omega.{arith}
+use native.Mathlib.Nat.{suc-mul, mul-le-mul-right, mul-le-mul-left, le-trans}
+use mathlib.Core.Path.{_≡_, refl, ap}
+use mathlib.Core.List.{List}
+use lib.ListN.{length}
+use Rattle.tables.specs.declared.Catalogue.{Catalogue}
+use Rattle.tables.specs.Catalogues.{total}
+use Rattle.tables.specs.Checks.{Lawful}
+use Rattle.tables.proofs.CatalogueLaws.{rows-few}
+use Rattle.machine.specs.Machine.{State, deepest, finished, working, refused, Called, answer, Fit, work}
+use Rattle.machine.proofs.WorkLaws.{handing, by-ways}
+use Rattle.machine.proofs.LoopLaws.{piled}
+use Rattle.machine.proofs.TrialLaws.{trial-fit}
+
+-- What is known of the counts of call s, made with budget b in state q.
+pub record Few (cat : Catalogue) (b : ℕ) (q : State) (s : Called) : Type 0 where
+  pub rows : q .next + s .trials ≤ total cat
+  pub budget : s .trials ≤ b
+  pub tests : s .tests ≤ s .trials * (cat .n * total cat)
+  pub looks : s .looks ≤ s .trials * (deepest cat + 1)
+
+few-none : (cat : Catalogue) (b : ℕ) (q : State) (s : Called) → q .next ≤ total cat → s .trials ≡ 0 → s .tests ≡ 0 → s .looks ≡ 0 → Few cat b q s
+few-none cat b q s h e f g = record { rows = omega arith; budget = omega arith; tests = omega arith; looks = omega arith }
+
+module _ (cat : Catalogue) (cells row : List ℕ) where
+  pub few : (b : ℕ) (q : State) → Fit cat q → Few cat b q (work cat cells b q row)
+  few =
+      by-ways cat cells row (λ b q s. Fit cat q → Few cat b q s)
+      (record {
+        ends = λ b q e f g. few-none cat b q (answer finished q row) (g .next) refl refl refl;
+        hands = λ b q e f k g. few-none cat b q (handing cat cells row q) (g .next) refl refl refl;
+        lost = λ b q e f k g. few-none cat b q (answer (refused 14) q row) (g .next) refl refl refl;
+        spent = λ q e g. few-none cat 0 q (answer working q row) (g .next) refl refl refl;
+        fills = λ b q e f g. few-none cat (suc b) q (answer (refused 12) q row) (g .next) refl refl refl;
+        fails = λ b q e f g. few-none cat (suc b) q (answer (refused 14) q row) (g .next) refl refl refl;
+        goes = λ b q p t l e f ih g.
+            let m : q .next < total cat = omega (arith, g .next) in
+            let (x, y) = trial-fit cat cells q p t l g m f in
+            let s = work cat cells b p row in
+            let i = ih y in
+            record {
+              rows = omega (arith, i .rows, x .next);
+              budget = omega (arith, i .budget);
+              tests = omega (arith, suc-mul (s .trials) (cat .n * total cat), i .tests, x .tests);
+              looks = omega (arith, suc-mul (s .trials) (deepest cat + 1), i .looks, x .looks);
+            };
+      })
+
+  -- In a lawful catalogue they fit a machine number by far; so do the counts that a loop has piled up on its way.
+  module _ (L : Lawful cat (length cells)) where
+    product : (a b x y : ℕ) → a ≤ x → b ≤ y → a * b ≤ x * y
+    product a b x y h k = le-trans (mul-le-mul-right b h) (mul-le-mul-left x k)
+
+    pub counts-small : (b : ℕ) (q : State) → Fit cat q → (a t l : ℕ) (s : Called) → work cat cells b q row ≡ piled a t l s
+        → (a ≤ 2040) × (t ≤ 2040 * (8 * 2040)) × (l ≤ 2040 * 65)
+    counts-small b q g a t l s e =
+        let f = few b q g in
+        let w = work cat cells b q row in
+        let rows : total cat ≤ 2040 = rows-few cat (length cells) L (cat .n) (omega arith) in
+        let n : w .trials ≤ 2040 = omega (arith, f .rows) in
+        let each : cat .n * total cat ≤ 8 * 2040 = product (cat .n) (total cat) 8 2040 (L .tables) rows in
+        let looks : deepest cat + 1 ≤ 65 = omega (arith, L .tables) in
+        let x : w .trials ≡ a + s .trials = ap (λ (c : Called). c .trials) e in
+        let y : w .tests ≡ t + s .tests = ap (λ (c : Called). c .tests) e in
+        let z : w .looks ≡ l + s .looks = ap (λ (c : Called). c .looks) e in (
+          omega arith,
+          omega (arith, f .tests, product (w .trials) (cat .n * total cat) 2040 (8 * 2040) n each),
+          omega (arith, f .looks, product (w .trials) (deepest cat + 1) 2040 65 n looks),
+        )

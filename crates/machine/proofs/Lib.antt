@@ -1,0 +1,7 @@
+pub mod WorkLaws
+pub mod LoopLaws
+pub mod TrialLaws
+pub mod CountLaws
+pub mod RefusalLaws
+pub mod Sample
+pub mod Edges

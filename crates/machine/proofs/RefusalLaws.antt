@@ -1,0 +1,203 @@
+-- The refusals before work, read one by one in their order, and what a call and open come to where one is met and where none is. Assumes nothing.
+use Prim.Native.Nat.{ℕ, zero, suc, _≤_, _<_}
+use native.Mathlib.Omega.{arith}
+use native.Mathlib.Nat.{eq-zero-or-pos}
+use mathlib.Core.Path.{_≡_, refl, ap}
+use mathlib.Core.Logic.{_↔_, _⊎_, inl, inr, ⊎-elim}
+use mathlib.Core.Bool.{Bool, true, false, not, cond, _&&_, _||_}
+use mathlib.Core.List.{List}
+use lib.ListN.{length}
+use lib.Dec.{ltb, eqb}
+use borrow.Author.Tests.{ltb-true, ltb-false, lt-ltb, le-ltb, eqb-true, eq-eqb, ne-eqb}
+use Rattle.laws.proofs.TestLaws.{which, clash}
+use Rattle.keys.specs.Keys.{bitsPerRow, keyOf}
+use Rattle.tables.specs.declared.Catalogue.{Catalogue}
+use Rattle.tables.specs.Catalogues.{total}
+use Rattle.tables.specs.Checks.{Lawful, catalogueFault}
+use Rattle.tables.proofs.CheckLaws.{first-some, first-clear, fault-lawful, lawful-fault}
+use Rattle.store.specs.Store.{Store, storeIn, roomIn, filed}
+use Rattle.machine.specs.Machine.{State, refused, answer, Fit, unfit, callFault, unlessMet, work, call, zeros, openFault, unlessRefused, firstGrown, begun, opening}
+
+-- ---- 13
+
+-- A chain of tests says no where each of them does.
+or-none : (a b : Bool) → (a || b) ≡ false → (a ≡ false) × (b ≡ false)
+or-none false b e = (refl, e)
+or-none true b e = absurd (clash refl e)
+
+none-or : {a b : Bool} → a ≡ false → b ≡ false → (a || b) ≡ false
+none-or e f = rw (e, f)
+
+-- A test that says no where another says yes.
+and-none : (a b : Bool) → (a && b) ≡ false → a ≡ true → b ≡ false
+and-none true b e f = e
+and-none false b e f = absurd (clash f refl)
+
+none-and : (a b : Bool) → (a ≡ true → b ≡ false) → (a && b) ≡ false
+none-and true b h = h refl
+none-and false b h = refl
+
+module _ (cat : Catalogue) (q : State) where
+  pub unfit-iff : (unfit cat q ≡ false) ↔ Fit cat q
+  unfolding unfit
+  unfit-iff = (fit, unmet)
+    where
+      some-row : Bool
+      some-row = ltb 0 (total cat)
+
+      unequal : not (eqb (q .next) (total cat)) ≡ false → q .next ≡ total cat
+      unequal h = ⊎-elim (λ e. eqb-true (q .next) (total cat) e) (λ e. absurd (clash (ap not e) h)) (which (eqb (q .next) (total cat)))
+
+      fit : unfit cat q ≡ false → Fit cat q
+      fit h =
+          let (h5, f) = or-none _ _ h in
+          let (h4, e) = or-none _ _ h5 in
+          let (h3, d) = or-none _ _ h4 in
+          let (h2, c) = or-none _ _ h3 in
+          let (a, b) = or-none _ _ h2 in
+          record {
+            room = ltb-false _ _ a;
+            taken = ltb-false _ _ b;
+            next = ltb-false _ _ c;
+            begun = λ z. unequal (and-none _ _ d (eq-eqb _ _ z));
+            some = λ n. ⊎-elim (λ z. absurd (clash (lt-ltb _ _ n) (and-none _ _ e (eq-eqb _ _ z)))) (λ p. p) (eq-zero-or-pos (q .store .found));
+            none = λ z. ⊎-elim (λ y. y) (λ p. absurd (clash (eq-eqb _ _ z) (and-none _ _ f (lt-ltb _ _ p)))) (eq-zero-or-pos (q .store .found));
+          }
+
+      unmet : Fit cat q → unfit cat q ≡ false
+      unmet g =
+          none-or
+          (none-or
+          (none-or
+          (none-or
+          (none-or (le-ltb (roomIn (q .store)) (q .store .found) (g .room)) (le-ltb (q .store .found) (q .taken) (g .taken)))
+          (le-ltb (total cat) (q .next) (g .next)))
+          (none-and (eqb (q .taken) 0) _ (λ e. ap not (eq-eqb (q .next) (total cat) (g .begun (eqb-true (q .taken) 0 e))))))
+          (none-and (eqb (q .store .found) 0) some-row (λ e. le-ltb 0 (total cat) (few (eqb-true (q .store .found) 0 e) (eq-zero-or-pos (total cat))))))
+          (none-and (ltb 0 (q .store .found)) (eqb (total cat) 0) (λ e. ne-eqb (total cat) 0 (λ z. absurd (omega (arith, g .none z, ltb-true 0 (q .store .found) e)))))
+        where
+          few : q .store .found ≡ 0 → (total cat ≡ 0) ⊎ (0 < total cat) → total cat ≤ 0
+          few z (inl e) = omega arith
+          few z (inr p) = absurd (omega (arith, g .some p))
+
+  -- Met, as soon as one part of fitting fails.
+  pub unfit-met : (Fit cat q → ⊥) → unfit cat q ≡ true
+  unfit-met h = ⊎-elim (λ e. e) (λ e. absurd (h (unfit-iff .0 e))) (which (unfit cat q))
+
+-- ---- the refusals of a call
+
+module _ (cat : Catalogue) (lent : ℕ) (q : State) (row : List ℕ) where
+  pub call-catalogue : (catalogueFault cat lent ≡ 0 → ⊥) → callFault cat lent q row ≡ catalogueFault cat lent
+  unfolding callFault
+  call-catalogue h = first-some (catalogueFault cat lent) _ h
+
+  pub call-unfit : Lawful cat lent → unfit cat q ≡ true → callFault cat lent q row ≡ 13
+  unfolding callFault
+  call-unfit L e = rw (lawful-fault cat lent L, e)
+
+  pub call-short : Lawful cat lent → Fit cat q → length row < cat .m → callFault cat lent q row ≡ 11
+  unfolding callFault
+  call-short L g h = rw (lawful-fault cat lent L, unfit-iff cat q .1 g, lt-ltb (length row) (cat .m) h)
+
+  pub call-free : Lawful cat lent → Fit cat q → cat .m ≤ length row → callFault cat lent q row ≡ 0
+  unfolding callFault
+  call-free L g h = rw (lawful-fault cat lent L, unfit-iff cat q .1 g, le-ltb (length row) (cat .m) h)
+
+  -- And back: where none is met, all three are in order.
+  pub call-clear : callFault cat lent q row ≡ 0 → Lawful cat lent × Fit cat q × (cat .m ≤ length row)
+  unfolding callFault
+  call-clear e =
+      let (a, b) = first-clear (catalogueFault cat lent) (cond (unfit cat q) 13 (cond (ltb (length row) (cat .m)) 11 0)) e in
+      let (f, h) = rest (unfit cat q) (ltb (length row) (cat .m)) refl refl b in
+      (fault-lawful cat lent a, f, h)
+    where
+      rest : (x y : Bool) → unfit cat q ≡ x → ltb (length row) (cat .m) ≡ y → _≡_ {A = ℕ} (cond x 13 (cond y 11 0)) 0 → Fit cat q × (cat .m ≤ length row)
+      rest true y f h z = absurd (omega arith)
+      rest false true f h z = absurd (omega arith)
+      rest false false f h z = (unfit-iff cat q .0 f, ltb-false (length row) (cat .m) h)
+
+module _ (cat : Catalogue) (cells : List ℕ) (b : ℕ) (q : State) (row : List ℕ) where
+  -- A refusal is met.
+  pub call-refused : (k : ℕ) → callFault cat (length cells) q row ≡ k → (k ≡ 0 → ⊥) → call cat cells b q row ≡ answer (refused k) q row
+  unfolding call
+  call-refused k e h = rw e (met k h)
+    where
+      met : (k : ℕ) → (k ≡ 0 → ⊥) → unlessMet k q row (work cat cells b q row) ≡ answer (refused k) q row
+      met zero h = absurd (h refl)
+      met (suc k) h = refl
+
+  -- None is.
+  pub call-works : callFault cat (length cells) q row ≡ 0 → call cat cells b q row ≡ work cat cells b q row
+  unfolding call
+  call-works e = rw e
+
+-- ---- the refusals of open
+
+module _ (cat : Catalogue) (lent : ℕ) (q : Store) where
+  pub open-catalogue : (catalogueFault cat lent ≡ 0 → ⊥) → openFault cat lent q ≡ catalogueFault cat lent
+  unfolding openFault
+  open-catalogue h = first-some (catalogueFault cat lent) _ h
+
+  pub open-full : Lawful cat lent → 0 < total cat → roomIn q ≡ 0 → openFault cat lent q ≡ 12
+  unfolding openFault
+  open-full L h e = rw (lawful-fault cat lent L, lt-ltb 0 (total cat) h, eq-eqb (roomIn q) 0 e)
+
+  pub open-free : Lawful cat lent → (0 < total cat → 0 < roomIn q) → openFault cat lent q ≡ 0
+  unfolding openFault
+  open-free L h = rw (lawful-fault cat lent L, none-and (ltb 0 (total cat)) (eqb (roomIn q) 0) (λ e. ne-eqb (roomIn q) 0 (some (ltb-true 0 (total cat) e))))
+    where
+      some : 0 < total cat → roomIn q ≡ 0 → ⊥
+      some n z = absurd (omega (arith, h n))
+
+  -- And back: where none is met, the catalogue is lawful, and there is a record where there is a row.
+  pub open-clear : openFault cat lent q ≡ 0 → Lawful cat lent × (0 < total cat → 0 < roomIn q)
+  unfolding openFault
+  open-clear e =
+      let (a, b) = first-clear (catalogueFault cat lent) (cond (ltb 0 (total cat) && eqb (roomIn q) 0) 12 0) e in
+      (fault-lawful cat lent a, λ h. ⊎-elim (λ z. absurd (some h z b)) (λ p. p) (eq-zero-or-pos (roomIn q)))
+    where
+      some : 0 < total cat → roomIn q ≡ 0 → _≡_ {A = ℕ} (cond (ltb 0 (total cat) && eqb (roomIn q) 0) 12 0) 0 → ⊥
+      some h z b = let x : _≡_ {A = ℕ} 12 0 = rw (lt-ltb 0 (total cat) h, eq-eqb (roomIn q) 0 z) at b in absurd (omega arith)
+
+module _ (cat : Catalogue) (cells keys left right : List ℕ) where
+  pub opening-refused : (k : ℕ) → openFault cat (length cells) (storeIn keys left right 0) ≡ k → (k ≡ 0 → ⊥)
+      → opening cat cells keys left right ≡ record { refusal = k; after = zeros keys left right; tests = 0 }
+  unfolding opening
+  opening-refused k e h = rw e (met k h)
+    where
+      met : (k : ℕ) → (k ≡ 0 → ⊥)
+          → unlessRefused k (zeros keys left right) (begun cat cells keys left right) ≡ record { refusal = k; after = zeros keys left right; tests = 0 }
+      met zero h = absurd (h refl)
+      met (suc k) h = refl
+
+  -- The refusal given is the first that is met.
+  begun-says : begun cat cells keys left right .refusal ≡ 0
+  unfolding begun
+  begun-says = ⊎-elim (λ e. rw e) (λ e. rw e) (which (eqb (total cat) 0))
+
+  pub opening-says : opening cat cells keys left right .refusal ≡ openFault cat (length cells) (storeIn keys left right 0)
+  unfolding opening
+  opening-says = by (openFault cat (length cells) (storeIn keys left right 0))
+    where
+      by : (k : ℕ) → unlessRefused k (zeros keys left right) (begun cat cells keys left right) .refusal ≡ k
+      by zero = begun-says
+      by (suc k) = refl
+
+  pub opening-empty : openFault cat (length cells) (storeIn keys left right 0) ≡ 0 → total cat ≡ 0
+      → opening cat cells keys left right ≡ record { refusal = 0; after = zeros keys left right; tests = 0 }
+  unfolding opening begun
+  opening-empty e z = rw (e, eq-eqb (total cat) 0 z)
+
+  pub opening-begun : openFault cat (length cells) (storeIn keys left right 0) ≡ 0 → 0 < total cat
+      → opening cat cells keys left right
+      ≡ record {
+        refusal = 0;
+        after = record {
+          store = filed (storeIn keys left right 0) (keyOf bitsPerRow (firstGrown cat cells .rows));
+          taken = 0;
+          next = total cat;
+        };
+        tests = firstGrown cat cells .tests;
+      }
+  unfolding opening begun
+  opening-begun e h = rw (e, ne-eqb (total cat) 0 (λ z. absurd (omega arith)))
