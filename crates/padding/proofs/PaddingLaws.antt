@@ -1,14 +1,15 @@
 -- The padded row of a key: its length, its codes, what is left of it while it is written, and that it is document 000's embedding of the set.
 -- Assumes nothing.
-use Prim.Native.Nat.{ℕ, _+_, _≤_, _<_}
+use Prim.Native.Nat.{ℕ, _+_, _-_, _≤_, _<_}
 use native.Mathlib.Omega.{arith}
 use native.Mathlib.Numerals.{add-one}
 use mathlib.Core.Path.{_≡_, refl, ap, subst, _∙_}
 use mathlib.Core.Logic.{_↔_}
 use mathlib.Core.Bool.{true, false}
 use mathlib.Core.List.{List, [], _∷_}
-use lib.ListN.{length, drop, getD, drop-of-length-le}
-use lib.Seq.{drop-cons}
+use lib.ListN.{length, drop, getD, drop-of-length-le, List·getD-append}
+use lib.Seq.{drop-cons, getD-append-add, getD-drop}
+use Rattle.laws.specs.Lists.{put}
 use Rattle.laws.proofs.TestLaws.{not-yes, iff-eq}
 use Rattle.words.specs.Words.{bitOf}
 use Rattle.keys.specs.Keys.{bitsPerRow, rowOf}
@@ -64,6 +65,18 @@ module _ (cat : Catalogue) (cells : List ℕ) (key : ℕ) where
   pub pad-at : (a : ℕ) → a < cat .m → getD (paddedRow cat cells key) a 0 ≡ codeBelow (cellsIn cat cells) (setOf cat key) a (cat .n)
   unfolding paddedRow
   pad-at a l = padded-at (cellsIn cat cells) (setOf cat key) a l
+
+  -- A row with it in its front: the codes below m, and the cells from m on as they were.
+  pub put-code : (o : List ℕ) (a : ℕ) → a < cat .m → getD (put (paddedRow cat cells key) o) a 0 ≡ codeBelow (cellsIn cat cells) (setOf cat key) a (cat .n)
+  put-code o a l =
+      let row = paddedRow cat cells key in
+      List·getD-append row (drop (length row) o) 0 a (rw pad-long l) ∙ pad-at a l
+
+  pub put-stays : (o : List ℕ) (a : ℕ) → cat .m ≤ a → getD (put (paddedRow cat cells key) o) a 0 ≡ getD o a 0
+  put-stays o a l =
+      let row = paddedRow cat cells key in
+      let k : length row + (a - length row) ≡ a = rw pad-long (omega arith) in
+      (rw k at (getD-append-add row (drop (length row) o) (a - length row) 0)) ∙ getD-drop (length row) o (a - length row) 0 ∙ rw k
 
   -- What is left of it from an attribute on: one code and what is left behind it, and nothing from m on.
   pub pad-more : (a : ℕ) → a < cat .m

@@ -32,19 +32,17 @@ code-of-requires c κs =
     let s = l .before .before in
     let b : l .loop .t < s .args .cat .n = omega arith in
     let g = gives-row (s .args .cat) (s .args .key) (s .args .a) (l .loop .t) b .0 (sym (c .before .before .table-gives .ensures) ∙ c .before .if1 .taken) in
-    (s .pre .0, b, rw (c .row-of .ensures) (g .0), rw (c .row-of .ensures) (s .pre .1 .rows (l .loop .t) b), omega (arith, s .pre .0 .attributes), g .1)
+    let e = c .row-of .ensures in
+    (s .pre .0, b, rw e (g .0), rw e (s .pre .1 .rows (l .loop .t) b), omega (arith, s .pre .0 .attributes), g .1)
 
 returns : tie.Need-returns Inv-loop μ-loop
 returns c =
     let r = c .before in
     let l = r .before .before .before .before in
     let s = l .before .before in
-    c .code-of .ensures
-    ∙ rw (r .row-of .ensures)
-    (sym
-    (code-first (s .args .cat) (s .args .key) (now (s .args .cells)) (s .args .a) (l .loop .t) (omega arith)
-    (sym (r .before .before .table-gives .ensures) ∙ r .before .if1 .taken)
-    (l .loop .inv .1)))
+    let y = sym (r .before .before .table-gives .ensures) ∙ r .before .if1 .taken in
+    rw (c .code-of .ensures, r .row-of .ensures)
+    (sym (code-first (s .args .cat) (s .args .key) (now (s .args .cells)) (s .args .a) (l .loop .t) (omega arith) y (l .loop .inv .1)))
 
 add-t : tie.Need-add-t Inv-loop μ-loop
 add-t c = search needs

@@ -3,18 +3,20 @@ use borrow.Author.Needs.{needs}
 use native.Mathlib.Omega.{arith}
 use Prim.Native.Nat.{_+_, _-_, _≤_}
 use mathlib.Core.Path.{_≡_, refl, sym, _∙_}
-use lib.ListN.{length, drop}
+use lib.ListN.{length, drop, length-set}
 use Rattle.laws.specs.Lists.{put, over}
 use Rattle.laws.proofs.ListLaws.{put-cons, put-nil}
 use Rattle.padding.specs.Padding.{paddedRow}
 use Rattle.padding.proofs.PaddingLaws.{pad-more, pad-none}
 use denote.Ref.{now}
-use lib.ListN.{length-set}
 use Rattle.padding.proofs.pad.Statement.{statement}
 use Rattle.padding.proofs.pad.Tie as tie
 
 abbrev Inv-loop : tie.InvT-loop
-Inv-loop cat cells key padded₀ m a₀ padded a = (a ≤ m) × (length padded ≡ length padded₀) × (put (paddedRow cat cells key) padded₀ ≡ over a (drop a (paddedRow cat cells key)) padded)
+Inv-loop cat cells key padded₀ m a₀ padded a =
+    (a ≤ m)
+    × (length padded ≡ length padded₀)
+    × (put (paddedRow cat cells key) padded₀ ≡ over a (drop a (paddedRow cat cells key)) padded)
 
 abbrev μ-loop : tie.MeasureT-loop
 μ-loop cat cells key padded₀ m a₀ padded a = m - a
