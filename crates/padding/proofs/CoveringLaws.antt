@@ -13,7 +13,7 @@ use lib.Seq.{drop-cons}
 use lib.Dec.{leb, eqb}
 use borrow.Author.Tests.{ltb-true, lt-ltb, leb-true, le-leb, eqb-true, eq-eqb}
 use Rattle.laws.proofs.TestLaws.{which, clash, not-yes, and-split, and-join, all-each, all-of}
-use Rattle.padding.specs.Covering.{valued, alike, agreeing, valuesIn, covering, Covering}
+use Rattle.padding.specs.Covering.{valued, alike, alikeAt, agreeing, Agreeing, valuesIn, covering, Covering}
 
 -- ---- two codes
 
@@ -27,7 +27,6 @@ unfolding alike
 alike-values x y e f = rw (e, f)
 
 pub alike-iff : (x y : ℕ) → (alike x y ≡ true) ↔ (0 < x → 0 < y → x ≡ y)
-unfolding alike
 alike-iff x y = (
   λ h p q. eqb-true x y (sym (alike-values x y (lt-ltb 0 x p) (lt-ltb 0 y q)) ∙ h),
   λ h. go h (which (valued x)) (which (valued y)),
@@ -41,30 +40,27 @@ alike-iff x y = (
 -- ---- two rows
 
 module _ (first second : List ℕ) where
-  abbrev pub Agreeing : Type 0
-  Agreeing = (a : ℕ) → 0 < getD first a 0 → 0 < getD second a 0 → getD first a 0 ≡ getD second a 0
-
-  pub agreeing-iff : (agreeing first second ≡ true) ↔ Agreeing
+  pub agreeing-iff : (agreeing first second ≡ true) ↔ Agreeing first second
   unfolding agreeing
   agreeing-iff = (
     λ h a p q. go h a p q (decLt a (length first)),
-    λ h. all-of (length first) (λ a. alike (getD first a 0) (getD second a 0)) (λ a l. alike-iff (getD first a 0) (getD second a 0) .1 (h a)),
+    λ h. all-of (length first) (alikeAt first second) (λ a l. alike-iff (getD first a 0) (getD second a 0) .1 (h a)),
   )
     where
       go : agreeing first second ≡ true → (a : ℕ) → 0 < getD first a 0 → 0 < getD second a 0 → Dec (a < length first) → getD first a 0 ≡ getD second a 0
       go h a p q (yes l) =
-          alike-iff (getD first a 0) (getD second a 0) .0 (all-each (length first) (λ a. alike (getD first a 0) (getD second a 0)) h a l) p q
+          alike-iff (getD first a 0) (getD second a 0) .0 (all-each (length first) (alikeAt first second) h a l) p q
       go h a p q (no g) = absurd (omega (arith, p, List·getD-eq-default first 0 {n = a} (omega arith)))
 
   -- One pair of codes decides, or every pair is asked.
-  pub agreeing-bad : (a : ℕ) → a < length first → alike (getD first a 0) (getD second a 0) ≡ false → agreeing first second ≡ false
+  pub agreeing-bad : (a : ℕ) → a < length first → alikeAt first second a ≡ false → agreeing first second ≡ false
   unfolding agreeing
   agreeing-bad a l e =
-      not-yes (agreeing first second) (λ h. clash (all-each (length first) (λ a. alike (getD first a 0) (getD second a 0)) h a l) e)
+      not-yes (agreeing first second) (λ h. clash (all-each (length first) (alikeAt first second) h a l) e)
 
-  pub agreeing-good : ((a : ℕ) → a < length first → alike (getD first a 0) (getD second a 0) ≡ true) → agreeing first second ≡ true
+  pub agreeing-good : ((a : ℕ) → a < length first → alikeAt first second a ≡ true) → agreeing first second ≡ true
   unfolding agreeing
-  agreeing-good h = all-of (length first) (λ a. alike (getD first a 0) (getD second a 0)) h
+  agreeing-good h = all-of (length first) (alikeAt first second) h
 
 -- ---- the values of a row
 

@@ -37,7 +37,7 @@ module _ (cat : Catalogue) (key : ℕ) where
       subst (λ (r : ℕ). (gives (cellsIn cat []) (setOf cat key) a t ≡ true) ↔ ((0 < r) × (bitOf (schemeOf cat t) a ≡ true)))
       (in-at bitsPerRow (cat .n) key t l) (gives-iff (cellsIn cat []) (setOf cat key) a t)
 
-  -- The way to that: no row, no code; else the scheme decides.
+  -- Without a row it gives none; else the scheme decides.
   pub gives-absent : (a t : ℕ) → t < cat .n → rowOf bitsPerRow key t ≡ 0 → givesIn cat key a t ≡ false
   gives-absent a t l z = not-yes (givesIn cat key a t) (λ y. absurd (omega (arith, z, gives-row a t l .0 y .0)))
 

@@ -16,9 +16,16 @@ valued code = ltb 0 code
 unfoldable pub alike : ℕ → ℕ → Bool
 alike x y = not (valued x && valued y) || eqb x y
 
--- "Agree wherever both have a value."
+-- Two rows, at an attribute.
+abbrev pub alikeAt : List ℕ → List ℕ → ℕ → Bool
+alikeAt first second a = alike (getD first a 0) (getD second a 0)
+
+-- "Agree wherever both have a value": as a test, and as what its yes says.
 unfoldable pub agreeing : List ℕ → List ℕ → Bool
-agreeing first second = all (length first) (λ a. alike (getD first a 0) (getD second a 0))
+agreeing first second = all (length first) (alikeAt first second)
+
+abbrev pub Agreeing : List ℕ → List ℕ → Type 0
+Agreeing first second = (a : ℕ) → 0 < getD first a 0 → 0 < getD second a 0 → getD first a 0 ≡ getD second a 0
 
 -- How many values a row has.
 unfoldable pub valuesIn : List ℕ → ℕ
@@ -32,5 +39,5 @@ covering first second = eqb (length first) (length second) && agreeing first sec
 -- What a yes says.
 pub record Covering (first second : List ℕ) : Type 0 where
   pub long : length first ≡ length second
-  pub agree : (a : ℕ) → 0 < getD first a 0 → 0 < getD second a 0 → getD first a 0 ≡ getD second a 0
+  pub agree : Agreeing first second
   pub values : valuesIn second ≤ valuesIn first

@@ -3,9 +3,9 @@ use borrow.Author.Needs.{needs}
 use native.Mathlib.Omega.{arith}
 use Prim.Native.Nat.{ℕ, _-_, _≤_, _<_}
 use mathlib.Core.Path.{_≡_, sym, _∙_}
-use lib.ListN.{length, getD}
+use lib.ListN.{length}
 use mathlib.Core.Bool.{true}
-use Rattle.padding.specs.Covering.{alike}
+use Rattle.padding.specs.Covering.{alikeAt}
 use Rattle.padding.proofs.CoveringLaws.{agreeing-bad, agreeing-good}
 use borrow.Author.Count.{below-more}
 use denote.Ref.{now}
@@ -14,7 +14,7 @@ use Rattle.padding.proofs.agree.Statement.{statement}
 use Rattle.padding.proofs.agree.Tie as tie
 
 abbrev Inv-loop : tie.InvT-loop
-Inv-loop first second a₀ a = (a ≤ length first) × ((u : ℕ) → u < a → alike (getD first u 0) (getD second u 0) ≡ true)
+Inv-loop first second a₀ a = (a ≤ length first) × ((u : ℕ) → u < a → alikeAt first second u ≡ true)
 
 abbrev μ-loop : tie.MeasureT-loop
 μ-loop first second a₀ a = length first - a
