@@ -1,0 +1,3 @@
+pub mod PaddingLaws
+pub mod CoveringLaws
+pub mod Examples

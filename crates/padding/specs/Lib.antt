@@ -1,0 +1,2 @@
+pub mod Padding
+pub mod Covering
