@@ -1,0 +1,42 @@
+-- `stream::fault` meets its contract: the catalogue, then 13, then 11, each by its own law. Assumes nothing.
+use native.Mathlib.Omega.{arith}
+use Prim.Native.Nat.{ℕ, _+_, _-_, _*_, _^_, _≤_, _<_}
+use mathlib.Core.Path.{_≡_, refl, sym, ap, _∙_}
+use lib.ListN.{length, getD}
+use borrow.Author.Needs.{needs}
+use Rattle.tables.specs.Checks.{Lawful}
+use Rattle.tables.proofs.CatalogueLaws.{lawful-all}
+use Rattle.tables.proofs.CheckLaws.{fault-lawful}
+use Rattle.machine.proofs.RefusalLaws.{unfit-iff, call-catalogue, call-unfit, call-short, call-free}
+use Rattle.stream.proofs.fault.Statement.{statement}
+use Rattle.stream.proofs.fault.Tie as tie
+
+fault-requires : tie.Need-fault-requires
+fault-requires c κs = search needs
+
+returns : tie.Need-returns
+returns c =
+    let e = c .before .fault .ensures in
+    sym (call-catalogue _ _ _ _ (λ z. c .if1 .taken (e ∙ z)) ∙ sym e)
+
+record-unfit-requires : tie.Need-record-unfit-requires
+record-unfit-requires c κs = lawful-all _ _ (fault-lawful _ _ (sym (c .before .fault .ensures) ∙ c .if1 .left))
+
+returns-2 : tie.Need-returns-2
+returns-2 c =
+    let L = fault-lawful _ _ (sym (c .before .before .before .fault .ensures) ∙ c .before .before .if1 .left) in
+    sym (call-unfit _ _ _ _ L (sym (c .before .record-unfit .ensures) ∙ c .if2 .taken))
+
+returns-3 : tie.Need-returns-3
+returns-3 c =
+    let L = fault-lawful _ _ (sym (c .before .before .before .before .fault .ensures) ∙ c .before .before .before .if1 .left) in
+    sym (call-short _ _ _ _ L (unfit-iff _ _ .0 (sym (c .before .before .record-unfit .ensures) ∙ c .before .if2 .left)) (c .if3 .taken))
+
+returns-4 : tie.Need-returns-4
+returns-4 c =
+    let L = fault-lawful _ _ (sym (c .before .before .before .before .fault .ensures) ∙ c .before .before .before .if1 .left) in
+    sym (call-free _ _ _ _ L (unfit-iff _ _ .0 (sym (c .before .before .record-unfit .ensures) ∙ c .before .if2 .left)) (c .if3 .left))
+
+pub fault-spec : {M : Type 1} → statement M
+fault-spec =
+    tie.close (tie.spec fault-requires returns record-unfit-requires returns-2 returns-3 returns-4)

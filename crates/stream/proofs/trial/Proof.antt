@@ -1,0 +1,171 @@
+-- `stream::trial` meets its contract: the key's test, then the rule's set, then the offer, whose promise is the trial's end. Assumes nothing.
+use native.Mathlib.Omega.{arith}
+use Prim.Native.Nat.{ℕ, _+_, _-_, _*_, _^_, _≤_, _<_}
+use mathlib.Core.Path.{_≡_, refl, sym, ap, _∙_}
+use lib.ListN.{length, getD}
+use borrow.Author.Needs.{needs}
+use borrow.Author.Tests.{not-true, not-false}
+use Rattle.keys.specs.Keys.{bitsPerRow}
+use Rattle.tables.specs.Sizes.{mostCells}
+use Rattle.tables.specs.Checks.{Lawful}
+use Rattle.tables.proofs.CatalogueLaws.{lawful-all}
+use Rattle.rows.proofs.NamedLaws.{named-iff, place-there}
+use Rattle.store.specs.Store.{storeIn, OfferPost}
+use Rattle.machine.specs.Machine.{placed, keyAt, trialOn}
+use Rattle.machine.proofs.TrialLaws.{foundAfter, trial-lost, offer-trial}
+use Rattle.stream.specs.Promises.{stateOf, Tries}
+use Rattle.stream.proofs.StreamLaws.{taken-some, keys-long, offer-stays}
+use mathlib.Core.Logic.{inl, inr}
+use Rattle.stream.proofs.trial.Statement.{statement}
+use Rattle.stream.proofs.trial.Tie as tie
+
+-- Behind the offer: its promise is the trial's end.
+ends : (c : tie.After-offer)
+    → let a = c .before .before .before .before .before .before .before .before .before .before .before .before .before .before .before .args in
+    trialOn (a .cat) (a .cells .now) (stateOf (a .s) (a .keys .now) (a .left .now) (a .right .now))
+    ≡ placed (stateOf (a .s) (a .keys .now) (a .left .now) (a .right .now)) (c .before .before .before .before .before .trial-set .result .tests) (c .offer .result)
+    (storeIn (c .offer .last .0) (c .offer .last .1 .0) (c .offer .last .1 .1 .0) (foundAfter (a .s .found) (c .offer .result)))
+ends c =
+    let a = c .before .before .before .before .before .before .before .before .before .before .before .before .before .before .before .args in
+    let p = c .before .before .before .before .before .before .before .before .before .before .before .before .before .before .before .pre in
+    let g = c .before .before .before .before .before .trial-set .ensures in
+    let e = c .before .before .before .before .before .before .row-at .ensures in
+    let k = c .before .before .before .before .key-bits .ensures in
+    offer-trial (a .cat) (a .cells .now) (stateOf (a .s) (a .keys .now) (a .left .now) (a .right .now)) _ _ (c .offer .result) _ _ _ (p .2)
+    (sym (c .before .before .before .before .before .before .before .before .key-named .ensures) ∙ not-false _ (c .before .before .before .before .before .before .before .if1 .left))
+    (rw e at (g .key)) (rw e at (g .tests)) (rw k at (c .offer .ensures))
+
+sub-last : tie.Need-sub-last
+sub-last c = omega (arith, taken-some _ _ (c .before .before .before .before .before .pre .1) (c .before .before .before .before .before .pre .2))
+
+mul-key : tie.Need-mul-key
+mul-key c = search needs
+
+slice-read-key : tie.Need-slice-read-key
+slice-read-key c = omega (arith, taken-some _ _ (c .before .before .before .before .before .before .pre .1) (c .before .before .before .before .before .before .pre .2), keys-long _ _ (c .before .before .before .before .before .before .pre .1), c .before .before .before .before .before .before .pre .1 .taken)
+
+key-named-requires : tie.Need-key-named-requires
+key-named-requires c κs = lawful-all _ _ (c .before .before .before .before .before .before .pre .0)
+
+returns : tie.Need-returns
+returns c = record { same = trial-lost _ _ _ (sym (c .before .key-named .ensures) ∙ not-true _ (c .if1 .taken)); unmarked = (refl, refl, refl) }
+
+row-at-requires : tie.Need-row-at-requires
+row-at-requires c κs = (lawful-all _ _ (c .before .before .before .before .before .before .before .before .pre .0), c .before .before .before .before .before .before .before .before .pre .2)
+
+trial-set-requires : tie.Need-trial-set-requires
+trial-set-requires c κs =
+    let p = c .before .before .before .before .before .before .before .before .before .pre in
+    (p .0, named-iff _ _ .0 (sym (c .before .before .key-named .ensures) ∙ not-false _ (c .before .if1 .left)), rw (c .row-at .ensures) (place-there _ (c .before .before .before .before .before .before .before .before .before .args .cells .now) _ (p .2)))
+
+key-bits-requires : tie.Need-key-bits-requires
+key-bits-requires c κs = c .before .before .before .before .before .before .before .before .before .before .pre .0 .tables
+
+offer-requires : tie.Need-offer-requires
+offer-requires c κs =
+    let p = c .before .before .before .before .before .before .before .before .before .before .before .before .before .before .pre in
+    (p .1 .some (omega (arith, p .2)), p .1 .room, rw (c .before .before .before .key-bits .ensures) (omega (arith, p .0 .tables)))
+
+enum-known-looks : tie.Need-enum-known-looks
+enum-known-looks c = search needs
+
+enum-known-looks-2 : tie.Need-enum-known-looks-2
+enum-known-looks-2 c = search needs
+
+add-t28 : tie.Need-add-t28
+add-t28 c =
+    let p = c .before .before .before .before .before .before .before .before .before .before .before .before .before .before .before .before .before .before .before .before .before .before .before .before .pre in
+    omega (arith, p .1 .room)
+
+enum-told : tie.Need-enum-told
+enum-told c = search needs
+
+enum-told-2 : tie.Need-enum-told-2
+enum-told-2 c = search needs
+
+same-length : tie.Need-same-length
+same-length c = search needs
+
+same-length-2 : tie.Need-same-length-2
+same-length-2 c = search needs
+
+same-length-3 : tie.Need-same-length-3
+same-length-3 c = search needs
+
+returns-2 : tie.Need-returns-2
+unfolding placed
+returns-2 c = record { same = ends (c .before .before .before .before .before .before .before .before .before) ∙ rw (c .before .looks .given .1); unmarked = tt }
+
+same-length-4 : tie.Need-same-length-4
+same-length-4 c = search needs
+
+same-length-5 : tie.Need-same-length-5
+same-length-5 c = search needs
+
+same-length-6 : tie.Need-same-length-6
+same-length-6 c = search needs
+
+returns-3 : tie.Need-returns-3
+unfolding placed
+returns-3 c = record { same = ends (c .before .before .before .before .before .before .before .before .before) ∙ rw (c .before .looks2 .given .1); unmarked = tt }
+
+same-length-7 : tie.Need-same-length-7
+same-length-7 c = search needs
+
+same-length-8 : tie.Need-same-length-8
+same-length-8 c = search needs
+
+same-length-9 : tie.Need-same-length-9
+same-length-9 c = search needs
+
+returns-4 : tie.Need-returns-4
+unfolding placed
+returns-4 c = record { same = ends (c .before .before .before .before .before .before .before .before) ∙ rw (c .enum-told .given .1); unmarked = offer-stays _ _ _ _ _ _ _ (c .before .before .before .before .before .before .before .before .offer .ensures) (inl (c .enum-told .given .1)) }
+
+same-length-10 : tie.Need-same-length-10
+same-length-10 c = search needs
+
+same-length-11 : tie.Need-same-length-11
+same-length-11 c = search needs
+
+same-length-12 : tie.Need-same-length-12
+same-length-12 c = search needs
+
+returns-5 : tie.Need-returns-5
+unfolding placed
+returns-5 c = record { same = ends (c .before .before .before .before .before .before .before .before) ∙ rw (c .enum-told2 .given .1); unmarked = offer-stays _ _ _ _ _ _ _ (c .before .before .before .before .before .before .before .before .offer .ensures) (inr (c .enum-told2 .given .1)) }
+
+pub trial-spec : {M : Type 1} → statement M
+trial-spec =
+    tie.close
+    (tie.spec
+    sub-last
+    mul-key
+    slice-read-key
+    key-named-requires
+    returns
+    row-at-requires
+    trial-set-requires
+    key-bits-requires
+    offer-requires
+    enum-known-looks
+    enum-known-looks-2
+    add-t28
+    enum-told
+    enum-told-2
+    same-length
+    same-length-2
+    same-length-3
+    returns-2
+    same-length-4
+    same-length-5
+    same-length-6
+    returns-3
+    same-length-7
+    same-length-8
+    same-length-9
+    returns-4
+    same-length-10
+    same-length-11
+    same-length-12
+    returns-5)
