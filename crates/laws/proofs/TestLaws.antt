@@ -40,6 +40,23 @@ pub or-right : (a : Bool) {b : Bool} → b ≡ true → (a || b) ≡ true
 or-right true q = refl
 or-right false q = q
 
+-- Both say no, and back.
+pub or-none : (a b : Bool) → (a || b) ≡ false → (a ≡ false) × (b ≡ false)
+or-none false b e = (refl, e)
+or-none true b e = absurd (clash refl e)
+
+pub none-or : {a b : Bool} → a ≡ false → b ≡ false → (a || b) ≡ false
+none-or e f = rw (e, f)
+
+-- The second says no where the first says yes, and back.
+pub and-none : (a b : Bool) → (a && b) ≡ false → a ≡ true → b ≡ false
+and-none true b e f = e
+and-none false b e f = absurd (clash f refl)
+
+pub none-and : (a b : Bool) → (a ≡ true → b ≡ false) → (a && b) ≡ false
+none-and true b h = h refl
+none-and false b h = refl
+
 pub below-suc : {u k : ℕ} → u < suc k → (u ≡ k) ⊎ (u < k)
 below-suc h = eq-or-lt-of-le (le-of-suc-le-suc h)
 

@@ -8,8 +8,8 @@ use mathlib.Core.Bool.{Bool, true, false, not, cond, _&&_, _||_}
 use mathlib.Core.List.{List}
 use lib.ListN.{length}
 use lib.Dec.{ltb, eqb}
-use borrow.Author.Tests.{ltb-true, ltb-false, lt-ltb, le-ltb, eqb-true, eq-eqb, ne-eqb}
-use Rattle.laws.proofs.TestLaws.{which, clash}
+use borrow.Author.Tests.{not-false, ltb-true, ltb-false, lt-ltb, le-ltb, eqb-true, eq-eqb, ne-eqb}
+use Rattle.laws.proofs.TestLaws.{which, clash, or-none, none-or, and-none, none-and}
 use Rattle.keys.specs.Keys.{bitsPerRow, keyOf}
 use Rattle.tables.specs.declared.Catalogue.{Catalogue}
 use Rattle.tables.specs.Catalogues.{total}
@@ -20,23 +20,6 @@ use Rattle.machine.specs.Machine.{State, refused, answer, Fit, unfit, ca
 
 -- ---- 13
 
--- A chain of tests says no where each of them does.
-or-none : (a b : Bool) → (a || b) ≡ false → (a ≡ false) × (b ≡ false)
-or-none false b e = (refl, e)
-or-none true b e = absurd (clash refl e)
-
-none-or : {a b : Bool} → a ≡ false → b ≡ false → (a || b) ≡ false
-none-or e f = rw (e, f)
-
--- A test that says no where another says yes.
-and-none : (a b : Bool) → (a && b) ≡ false → a ≡ true → b ≡ false
-and-none true b e f = e
-and-none false b e f = absurd (clash f refl)
-
-none-and : (a b : Bool) → (a ≡ true → b ≡ false) → (a && b) ≡ false
-none-and true b h = h refl
-none-and false b h = refl
-
 module _ (cat : Catalogue) (q : State) where
   pub unfit-iff : (unfit cat q ≡ false) ↔ Fit cat q
   unfolding unfit
@@ -44,9 +27,6 @@ module _ (cat : Catalogue) (q : State) where
     where
       some-row : Bool
       some-row = ltb 0 (total cat)
-
-      unequal : not (eqb (q .next) (total cat)) ≡ false → q .next ≡ total cat
-      unequal h = ⊎-elim (λ e. eqb-true (q .next) (total cat) e) (λ e. absurd (clash (ap not e) h)) (which (eqb (q .next) (total cat)))
 
       fit : unfit cat q ≡ false → Fit cat q
       fit h =
@@ -59,7 +39,7 @@ module _ (cat : Catalogue) (q : State) where
             room = ltb-false _ _ a;
             taken = ltb-false _ _ b;
             next = ltb-false _ _ c;
-            begun = λ z. unequal (and-none _ _ d (eq-eqb _ _ z));
+            begun = λ z. eqb-true _ _ (not-false _ (and-none _ _ d (eq-eqb _ _ z)));
             some = λ n. ⊎-elim (λ z. absurd (clash (lt-ltb _ _ n) (and-none _ _ e (eq-eqb _ _ z)))) (λ p. p) (eq-zero-or-pos (q .store .found));
             none = λ z. ⊎-elim (λ y. y) (λ p. absurd (clash (eq-eqb _ _ z) (and-none _ _ f (lt-ltb _ _ p)))) (eq-zero-or-pos (q .store .found));
           }
