@@ -31,7 +31,7 @@ use Rattle.store.specs.declared.Looked.the-variants.{Found, Absent, Damaged}
 use Rattle.store.specs.declared.Placed.the-variants.{Added, Full}
 use Rattle.store.proofs.LookLaws.{Inside}
 use Rattle.store.proofs.StoreLaws as Laws
-use Rattle.store.proofs.StoreLaws.{Good, Stored, Offered, inside, room-added, added-cells}
+use Rattle.store.proofs.StoreLaws.{GoodStore, Stored, Offered, search-inside, room-added, added-cells}
 use Rattle.machine.specs.Machine.{State, keyAt, Trial, done, full, damaged, raised, placed, offered, deepest, trialOn}
 use Rattle.machine.proofs.TrialLaws.{Bound, Bounded, trial-bounded}
 
@@ -46,7 +46,7 @@ module _ (cat : Catalogue) (cells : List ℕ) where
   -- c is how many records the store has room for.
   pub record Live (c : ℕ) (q : State) : Type 0 where
     pub sets : List (List ℕ)
-    pub tree : Good bitsPerRow (cat .n) (q .store)
+    pub tree : GoodStore bitsPerRow (cat .n) (q .store)
     pub long : length sets ≡ q .store .found
     pub keyed : (p : ℕ) → p < q .store .found → keyAt q p ≡ keyOf bitsPerRow (getD sets p [])
     pub going : Going W (listed sets q)
@@ -146,7 +146,7 @@ module _ (cat : Catalogue) (cells : List ℕ) where
           }
 
       gained : (p : ℕ) (s : Bool) → p < q .store .found → q .store .found < roomIn (q .store) → (Stored (q .store) key → ⊥)
-          → Good bitsPerRow (cat .n) (added (q .store) key p s) → Live c (raised q (added (q .store) key p s))
+          → GoodStore bitsPerRow (cat .n) (added (q .store) key p s) → Live c (raised q (added (q .store) key p s))
       unfolding added filed
       gained p s l h n t =
           record {
@@ -207,5 +207,5 @@ module _ (cat : Catalogue) (cells : List ℕ) where
           subst (λ (t : Trial). Bounded cat q t → Comes c q g t) (sym trial-here)
           (searched (searchOf (q .store) key (deepest cat))
           (Laws.offered bitsPerRow (cat .n) (q .store) (g .tree) key (maximal-named U topU .low))
-          (inside (q .store) key (deepest cat) (g .tree .1 .some)))
+          (search-inside (q .store) key (deepest cat) (g .tree .1 .some)))
           (trial-bounded cat cells q b (g .tree .1 .some))

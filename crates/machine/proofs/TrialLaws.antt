@@ -25,7 +25,7 @@ use Rattle.store.specs.declared.Looked.the-variants.{Found, Absent, Damaged}
 use Rattle.store.specs.declared.Placed.{Placed}
 use Rattle.store.specs.declared.Placed.the-variants.{Known, Added, Full, Broken}
 use Rattle.store.proofs.LookLaws.{Inside}
-use Rattle.store.proofs.StoreLaws.{inside, refused-stays, room-added}
+use Rattle.store.proofs.StoreLaws.{search-inside, refused-stays, room-added}
 use Rattle.machine.specs.Machine.{State, stateIn, keyAt, Trial, done, full, damaged, placed, offered, deepest, trialDue, trialOn, Fit, firstGrown}
 
 -- ---- from what the code has at hand
@@ -162,7 +162,7 @@ module _ (cat : Catalogue) (cells : List ℕ) where
           let W = worldOf cat cells in
           let r = rowAt-row W (q .next) (rw (rows-total cat cells) h) in
           let v = trial-valid W (world-symmetric cat cells) (setOf cat k) (rowAt W (q .next)) (named-valid cat cells k (named-iff cat k .0 e)) r in
-          by (rw (rows-total cat cells) at (v .few)) (searchOf (q .store) key (deepest cat)) (inside (q .store) key (deepest cat) some)
+          by (rw (rows-total cat cells) at (v .few)) (searchOf (q .store) key (deepest cat)) (search-inside (q .store) key (deepest cat) some)
 
   -- A trial that was done leaves a stream that fits.
   pub trial-fit : (q p : State) (t l : ℕ) → Fit cat q → q .next < total cat → trialOn cat cells q ≡ done p t l → Bound cat q p t l × Fit cat p

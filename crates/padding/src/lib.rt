@@ -33,7 +33,9 @@ fn code_of(cat: Catalogue, cells: &[u64], t: usize, r: usize, a: usize) -> u64
     requires { ⌜ Lawful cat (length (now cells)) × (t < cat .n) × (1 ≤ r) × (r ≤ countOf cat t) × (a < 64) × (bitOf (schemeOf cat t) a ≡ true) ⌝ }
     ensures { λ c. ⌜ c ≡ codeOf cat (now (cells .entry)) t r a ⌝ }
 {
-    cells[tables::row_start(cat, t, r) + tables::rank(cat.schemes[t], a)]
+    let start = tables::row_start(cat, t, r);
+    let scheme = cat.schemes[t];
+    rows::code_at(cells, scheme, start, a)
 }
 
 // The padded row's code of attribute a.
