@@ -9,21 +9,9 @@ use mathlib.Core.List.{List}
 use Rattle.tables.specs.declared.Catalogue.{Catalogue}
 use Rattle.tables.specs.Catalogues.{total}
 use Rattle.rows.specs.Named.{named}
+pub use Rattle.machine.specs.Machine.{piled}
 use Rattle.machine.specs.Machine.{State, Trial, done, full, damaged, trialOn, Says, aSet, finished, working, refused, Called, counted, afterTrial, takenOf, keyDue, paddedIn, work}
 use Rattle.machine.proofs.WorkLaws.{work-ends, work-hands, work-lost, work-spent, work-trial}
-
--- a trials, t row tests and l looks before s.
-abbrev pub piled : ℕ → ℕ → ℕ → Called → Called
-piled a t l s =
-    record {
-      says = s .says;
-      key = s .key;
-      trials = a + s .trials;
-      tests = t + s .tests;
-      looks = l + s .looks;
-      after = s .after;
-      row = s .row;
-    }
 
 -- What the code gives in the end, with these counts.
 abbrev pub told : Says → ℕ → ℕ → ℕ → ℕ → State → List ℕ → Called

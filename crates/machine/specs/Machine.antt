@@ -108,6 +108,19 @@ counted t l s =
       row = s .row;
     }
 
+-- a trials, t row tests and l looks that were made before what s gives.
+abbrev pub piled : ℕ → ℕ → ℕ → Called → Called
+piled a t l s =
+    record {
+      says = s .says;
+      key = s .key;
+      trials = a + s .trials;
+      tests = t + s .tests;
+      looks = l + s .looks;
+      after = s .after;
+      row = s .row;
+    }
+
 -- "12 and 14 may then be met at work: trials done before stand, the failing trial leaves no mark, and neither it nor its row tests and looks are
 -- counted."
 abbrev pub afterTrial : Trial → State → List ℕ → (State → Called) → Called
