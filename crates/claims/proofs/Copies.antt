@@ -88,7 +88,7 @@ module _ (q r : State) (c : Copy q r) (h : roomIn (q .store) ≤ roomIn (r .stor
   unfolding offered
   offer-copy deepest =
       rw (copy-search (q .store) (r .store) key deepest (c .store) some)
-      (byLooked (searchOf (q .store) key deepest) (λ p s n e. Laws.placed (q .store) key deepest some (sym e)))
+      (byLooked (searchOf (q .store) key deepest) (λ p s n e. Laws.absent-place (q .store) key deepest some (sym e)))
 
 module _ (cat : Catalogue) (cells : List ℕ) where
   pub trial-copy : (q r : State) → Copy q r → roomIn (q .store) ≤ roomIn (r .store) → 0 < q .store .found → q .taken ≤ q .store .found

@@ -5,7 +5,7 @@ use mathlib.Core.Path.{_≡_}
 use mathlib.Core.List.{List}
 use Rattle.tables.specs.declared.Catalogue.{Catalogue}
 use Rattle.machine.specs.Machine.{State, stateIn, Trial, done, full, damaged, trialOn, Says, aSet, finished, working, refused, Called, work, call, Opened, opening}
-use Rattle.machine.proofs.LoopLaws.{piled}
+use Rattle.machine.specs.Machine.{piled}
 use Rattle.stream.specs.declared.StreamRecord.{StreamRecord}
 use Rattle.stream.specs.declared.Answer.{Answer}
 use Rattle.stream.specs.declared.Answer.the-variants.{Set, Finished, Working, Refused}

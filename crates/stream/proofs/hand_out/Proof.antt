@@ -13,7 +13,8 @@ use Rattle.laws.specs.Lists.{put}
 use Rattle.laws.proofs.ListLaws.{length-put}
 use Rattle.padding.specs.Padding.{paddedRow}
 use Rattle.machine.specs.Machine.{work}
-use Rattle.machine.proofs.LoopLaws.{piled, loop-finished, loop-set, loop-lost}
+use Rattle.machine.specs.Machine.{piled}
+use Rattle.machine.proofs.LoopLaws.{loop-finished, loop-set, loop-lost}
 use Rattle.stream.specs.Promises.{stateOf, calledOf}
 use Rattle.stream.proofs.hand_out.Statement.{statement}
 use Rattle.stream.proofs.hand_out.Tie as tie

@@ -11,7 +11,8 @@ use Rattle.tables.proofs.CatalogueLaws.{lawful-all}
 use Rattle.machine.specs.Machine.{stateIn, Fit, done, trialOn, work}
 use Rattle.machine.proofs.TrialLaws.{trial-fit}
 use Rattle.machine.proofs.CountLaws.{counts-small}
-use Rattle.machine.proofs.LoopLaws.{piled, piled-none, loop-working, loop-full, loop-damaged, loop-on}
+use Rattle.machine.specs.Machine.{piled}
+use Rattle.machine.proofs.LoopLaws.{piled-none, loop-working, loop-full, loop-damaged, loop-on}
 use Rattle.stream.specs.Promises.{stateOf}
 use Rattle.stream.proofs.StreamLaws.{keys-long}
 use Rattle.stream.proofs.work.Statement.{statement}
