@@ -1,20 +1,20 @@
 -- The start of a trial, row by row: which rows have to go, and the key from which they are taken table by table. Assumes nothing.
-use Prim.Native.Nat.{ℕ, zero, suc, _+_, _-_, _*_, _^_, _≤_, _<_}
+use Prim.Native.Nat.{ℕ, _+_, _-_, _*_, _^_, _≤_, _<_}
 use mathlib.Core.Path.{_≡_, refl, sym, ap, _∙_}
-use mathlib.Core.Logic.{_⊎_, inl, inr, ⊎-elim, _≢_}
+use mathlib.Core.Logic.{_⊎_, inl, inr, _≢_}
 use mathlib.Core.Bool.{Bool, true, false, not, cond, _&&_}
 use mathlib.Core.List.{List}
 use native.Mathlib.Omega.{arith}
 use native.Mathlib.Nat.{eq-zero-or-pos}
 use native.Mathlib.Decide.{ℕ-discrete}
-use lib.ListN.{length, getD}
+use lib.ListN.{length}
 use lib.Seq.{ext-getD, getD-set-same, getD-set-other}
 use lib.Bits.{bitAnd}
 use lib.Count.{ones}
 use lib.Dec.{eqb}
 use lib.Pow.{pow-pos}
 use borrow.Author.Tests.{eq-eqb, ne-eqb}
-use Rattle.laws.proofs.TestLaws.{clash, not-yes, iff-eq, and-split}
+use Rattle.laws.proofs.TestLaws.{not-yes, iff-eq, and-split}
 use Rattle.keys.specs.Keys.{bitsPerRow, rowOf, withRow}
 use Rattle.keys.proofs.KeyLaws.{row-same, row-other, with-lt}
 use Rattle.keys.proofs.SetLaws.{in-length, in-at, in-with}

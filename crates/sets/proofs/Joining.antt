@@ -1,28 +1,27 @@
 -- The piece, table by table: the part so far is a connected part of the set that holds s, and a part that no row joins is the piece. Touching alone
 -- decides, so all this holds whatever the cells are. Assumes nothing.
-use Prim.Native.Nat.{ℕ, zero, suc, _+_, _-_, _*_, _^_, _≤_, _<_}
-use mathlib.Core.Path.{_≡_, refl, sym, ap, _∙_}
-use mathlib.Core.Logic.{⊎-elim, _≢_}
-use mathlib.Core.Bool.{Bool, true, false, not, _&&_}
+use Prim.Native.Nat.{ℕ, suc, _-_, _*_, _^_, _<_}
+use mathlib.Core.Path.{_≡_, sym, ap, _∙_}
+use mathlib.Core.Logic.{⊎-elim}
+use mathlib.Core.Bool.{true, false, not}
 use mathlib.Core.List.{List, []}
 use native.Mathlib.Omega.{arith}
 use native.Mathlib.Decide.{ℕ-discrete, decLt}
-use lib.ListN.{length, getD, set}
+use lib.ListN.{length, set}
 use lib.Seq.{ext-getD, getD-set-same, getD-set-other}
 use lib.Bits.{bitAnd, bitOr}
 use lib.Dec.{eqb}
 use lib.Pow.{pow-pos}
-use borrow.Author.Tests.{eq-eqb, ne-eqb}
 use Rattle.laws.proofs.TestLaws.{clash, not-yes, and-split, and-join}
 use Rattle.words.specs.Words.{bitOf}
 use Rattle.keys.specs.Keys.{bitsPerRow, rowOf, withRow}
 use Rattle.keys.proofs.KeyLaws.{row-lt, row-same, row-zero, with-lt}
 use Rattle.keys.proofs.SetLaws.{in-length, in-at, in-past, in-with}
 use Rattle.tables.specs.declared.Catalogue.{Catalogue}
-use Rattle.tables.specs.Catalogues.{schemeOf, countOf}
+use Rattle.tables.specs.Catalogues.{schemeOf}
 use Rattle.tables.specs.Checks.{Lawful}
 use Rattle.disjunction.specs.Sets.{at, Member, size}
-use Rattle.disjunction.specs.Rule.{Place, rowIn, addRow, member, near, joins, alone, piece}
+use Rattle.disjunction.specs.Rule.{rowIn, addRow, member, near, joins, alone, piece}
 use Rattle.disjunction.proofs.RowSets.{size-le, size-set, alone-long, alone-at}
 use Rattle.disjunction.proofs.RowTests.{member-iff, absent-iff, joins-iff}
 use Rattle.disjunction.proofs.Pieces.{Part, part-alone, part-step, part-closed, pieces, piece-unique}
@@ -31,8 +30,8 @@ use Rattle.rows.specs.Named.{There}
 use Rattle.rows.proofs.WorldLaws.{world-symmetric}
 use Rattle.rows.proofs.NamedLaws.{row-small}
 use Rattle.sets.specs.Merged.{Attributes}
-use Rattle.sets.specs.Promises.{FirstIn, KeyFor, joinsIn}
-use Rattle.sets.proofs.MergedLaws.{OneMore, attributes-none, attributes-add}
+use Rattle.sets.specs.Promises.{KeyFor, joinsIn}
+use Rattle.sets.proofs.MergedLaws.{OneMore, attributes-add}
 use Rattle.sets.proofs.RowTestLaws.{near-mask}
 
 -- ---- the test, one law for each way of the code

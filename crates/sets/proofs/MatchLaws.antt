@@ -1,6 +1,6 @@
 -- A row against a merged row, and merged into it, bit by bit of a mask: any set bit may be taken next, and what is left of the mask is the rest of the
 -- answer. Assumes nothing.
-use Prim.Native.Nat.{ℕ, zero, suc, _+_, _-_, _*_, _/_, _%_, _^_, _≤_, _<_}
+use Prim.Native.Nat.{ℕ, _-_, _^_, _<_}
 use mathlib.Core.Path.{_≡_, refl, sym, ap, _∙_}
 use mathlib.Core.Logic.{_⊎_, inl, inr, ⊎-elim, _≢_, _↔_}
 use mathlib.Core.Bool.{Bool, true, false, not, _||_}
@@ -9,14 +9,12 @@ use native.Mathlib.Omega.{arith}
 use native.Mathlib.Decide.{ℕ-discrete}
 use lib.ListN.{length, getD, set, length-set}
 use lib.Seq.{getD-set-same, getD-set-other}
-use lib.Count.{ones}
 use lib.Pow.{pow-pos}
-use borrow.Author.Tests.{eqb-true, not-true}
+use borrow.Author.Tests.{not-true}
 use Rattle.laws.proofs.TestLaws.{which, clash, not-yes, iff-eq, or-case, or-left, or-right, all-each, all-of}
 use Rattle.words.specs.Words.{bitOf, LowestBit}
 use Rattle.words.proofs.WordLaws.{zero-bit, less-bit, bit-gone, bit-kept}
 use Rattle.tables.specs.Catalogues.{codeAt}
-use Rattle.tables.proofs.CatalogueLaws.{rank-lt}
 use Rattle.disjunction.specs.Cells.{same}
 use Rattle.disjunction.proofs.CellLaws.{same-iff}
 use Rattle.sets.specs.Merged.{mergedLength, Same, Under, matches, joint, Joined}

@@ -1,6 +1,6 @@
 -- The merged row of a set: of none, with one row more, and what it says of a row that is tested against it. One law of each serves every set of rows
 -- (those of a key, those below a table, one row alone), since members are given by a function. Assumes nothing.
-use Prim.Native.Nat.{ℕ, zero, suc, _+_, _%_, _^_, _≤_, _<_}
+use Prim.Native.Nat.{ℕ, _+_, _≤_, _<_}
 use mathlib.Core.Path.{_≡_, refl, sym, ap, _∙_}
 use mathlib.Core.Logic.{_⊎_, inl, inr, ⊎-elim, _≢_, _↔_}
 use mathlib.Core.Bool.{true, false, cond, _||_}

@@ -1,7 +1,7 @@
 -- A round over the tables, and the rounds of an extension: what is left to do from here, with the tests made, is the whole extension. Assumes nothing.
-use Prim.Native.Nat.{ℕ, zero, suc, _+_, _-_, _*_, _^_, _≤_, _<_}
-use mathlib.Core.Path.{_≡_, refl, sym, ap, ap₂, subst, _∙_}
-use mathlib.Core.Bool.{true, false}
+use Prim.Native.Nat.{ℕ, suc, _+_, _-_, _*_, _^_, _≤_, _<_}
+use mathlib.Core.Path.{_≡_, refl, sym, ap, ap₂, _∙_}
+use mathlib.Core.Bool.{false}
 use mathlib.Core.List.{List}
 use native.Mathlib.Omega.{arith}
 use native.Mathlib.Nat.{mul-le-mul, zero-add}
@@ -11,10 +11,10 @@ use lib.Count.{ones}
 use lib.Seq.{getD-set-other}
 use Rattle.keys.specs.Keys.{bitsPerRow, withRow, keyOf}
 use Rattle.keys.proofs.KeyLaws.{row-same}
-use Rattle.keys.proofs.SetLaws.{in-length, in-at, in-with, key-in}
+use Rattle.keys.proofs.SetLaws.{in-length, in-at, in-with}
 use Rattle.tables.specs.Sizes.{mostTables, mostRows}
 use Rattle.tables.specs.declared.Catalogue.{Catalogue}
-use Rattle.tables.specs.Catalogues.{schemeOf, countOf, firstCell, rowStart, rowsBefore, total}
+use Rattle.tables.specs.Catalogues.{schemeOf, countOf, firstCell, rowStart, rowsBefore}
 use Rattle.tables.specs.Checks.{Lawful}
 use Rattle.tables.proofs.CatalogueLaws.{cells-next, rows-next, rows-few}
 use Rattle.disjunction.specs.Sets.{Tables, at, size}

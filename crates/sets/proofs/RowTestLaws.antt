@@ -1,12 +1,12 @@
 -- The row test, one law for each way of the code: the table is present, it shares nothing with the set, the merged row decides. And the first of a
 -- table's rows that passes it. The laws of the merged row carry the test. Assumes nothing.
-use Prim.Native.Nat.{ℕ, zero, suc, _+_, _-_, _*_, _^_, _≤_, _<_}
-use mathlib.Core.Path.{_≡_, refl, sym, ap, _∙_}
+use Prim.Native.Nat.{ℕ, suc, _+_, _-_, _*_, _≤_, _<_}
+use mathlib.Core.Path.{_≡_, sym, ap, _∙_}
 use mathlib.Core.Logic.{_↔_}
 use mathlib.Core.Bool.{Bool, true, false, not, _&&_}
 use mathlib.Core.List.{List}
 use native.Mathlib.Omega.{arith}
-use native.Mathlib.Nat.{suc-mul, mul-le-mul-right, zero-mul}
+use native.Mathlib.Nat.{suc-mul, mul-le-mul-right}
 use native.Mathlib.Numerals.{add-one}
 use lib.ListN.{length}
 use lib.Bits.{bitAnd}
@@ -25,11 +25,11 @@ use Rattle.tables.proofs.CatalogueLaws.{cells-next, table-ends}
 use Rattle.disjunction.specs.Sets.{at}
 use Rattle.disjunction.specs.Rule.{Place, near, Agrees, rowTest}
 use Rattle.disjunction.proofs.RowTests.{near-iff, rowTest-iff, rowTest-absent}
-use Rattle.rows.specs.World.{worldOf, touchesIn}
+use Rattle.rows.specs.World.{worldOf}
 use Rattle.rows.proofs.WorldLaws.{touch-iff}
 use Rattle.sets.specs.Merged.{Attributes, Merged, matches, rowIn}
 use Rattle.sets.specs.Promises.{FirstIn}
-use Rattle.sets.proofs.MergedLaws.{shared-split, matches-fits}
+use Rattle.sets.proofs.MergedLaws.{matches-fits}
 
 -- ---- the row test
 

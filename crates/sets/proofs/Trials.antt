@@ -7,7 +7,7 @@ use Rattle.keys.proofs.SetLaws.{key-in}
 use Rattle.tables.specs.declared.Catalogue.{Catalogue}
 use Rattle.tables.specs.Checks.{Lawful}
 use Rattle.disjunction.specs.Sets.{at}
-use Rattle.disjunction.specs.Rule.{Place, Grown, dropped, piece, start, extension, trial}
+use Rattle.disjunction.specs.Rule.{Place, dropped, piece, start, extension, trial}
 use Rattle.disjunction.proofs.Starting.{dropped-here, start-piece, start-valid}
 use Rattle.rows.specs.World.{worldOf, setOf}
 use Rattle.rows.specs.Named.{Named, There}

@@ -1,6 +1,6 @@
 -- The merged row of a set: the attributes that its members have, and one code for each of them, such that a row fits every member exactly where it has
 -- these codes at the attributes that it shares (proofs/MergedLaws). A member is a row number f u above 0 of table u. Assumes nothing.
-use Prim.Native.Nat.{ℕ, _+_, _-_, _*_, _%_, _^_, _≤_, _<_}
+use Prim.Native.Nat.{ℕ, _+_, _*_, _^_, _<_}
 use mathlib.Core.Path.{_≡_}
 use mathlib.Core.Bool.{Bool, true, false, not, cond, _||_}
 use mathlib.Core.List.{List}

@@ -2,24 +2,21 @@
 -- Table walk: no row of the tables passed may be added (`Passed`). Assumes nothing.
 use borrow.Author.Needs.{needs}
 use native.Mathlib.Omega.{arith}
-use Prim.Native.Nat.{ℕ, suc, _+_, _-_, _*_, _^_, _≤_, _<_}
-use mathlib.Core.Path.{_≡_, refl, sym, ap, _∙_}
-use lib.ListN.{length, getD}
+use Prim.Native.Nat.{ℕ, suc, _+_, _-_, _*_, _≤_, _<_}
+use mathlib.Core.Path.{_≡_, refl}
 use lib.Count.{ones}
 use mathlib.Core.Path.{subst}
-use Rattle.keys.specs.Keys.{bitsPerRow}
 use Rattle.tables.specs.Sizes.{mostTables, mostRows, mostCells}
-use Rattle.tables.specs.Catalogues.{countOf, schemeOf, firstCell}
-use Rattle.tables.proofs.CatalogueLaws.{rows-few, table-ends}
+use Rattle.tables.specs.Catalogues.{countOf, schemeOf}
+use Rattle.tables.proofs.CatalogueLaws.{rows-few}
 use Rattle.disjunction.specs.Sets.{size}
 use Rattle.disjunction.specs.Rule.{extension}
 use Rattle.rows.specs.World.{worldOf, setOf}
-use Rattle.rows.specs.Named.{There}
 use Rattle.rows.proofs.WorldLaws.{row-room}
 use Rattle.rows.proofs.NamedLaws.{row-small}
 use Rattle.sets.specs.Promises.{Comes}
 use Rattle.sets.proofs.RowTestLaws.{start-of, table-room}
-use Rattle.sets.proofs.Rounds.{Passed, passed-none, passed-next, Growing, mostTests, growing-start, growing-few, found-there, growing-less, growing-hit, growing-end}
+use Rattle.sets.proofs.Rounds.{Passed, passed-none, passed-next, Growing, mostTests, growing-start, growing-few, growing-less, growing-hit, growing-end}
 use native.Mathlib.Numerals.{add-one}
 use Rattle.sets.proofs.extend.Statement.{statement}
 use Rattle.sets.proofs.extend.Tie as tie

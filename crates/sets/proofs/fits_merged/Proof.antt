@@ -1,9 +1,7 @@
 -- `sets::fits_merged` meets its contract. Invariant: what is left of the mask to match is the whole answer. The mask falls. Assumes nothing.
 use borrow.Author.Needs.{needs}
 use native.Mathlib.Omega.{arith}
-use Prim.Native.Nat.{ℕ, _+_, _-_, _*_, _^_, _≤_, _<_}
-use mathlib.Core.Path.{_≡_, refl, sym, ap, _∙_}
-use lib.ListN.{length, getD}
+use mathlib.Core.Path.{_≡_, refl, sym, _∙_}
 use Rattle.sets.specs.Merged.{Under, matches}
 use Rattle.sets.proofs.MatchLaws.{bit-fewer, under-less, matches-none, matches-more, matches-bad}
 use Rattle.sets.proofs.fits_merged.Statement.{statement}

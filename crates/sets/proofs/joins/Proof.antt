@@ -1,8 +1,6 @@
 -- `sets::joins` meets its contract, by one law for each way. Assumes nothing.
 use native.Mathlib.Omega.{arith}
-use Prim.Native.Nat.{ℕ, _+_, _-_, _*_, _^_, _≤_, _<_}
-use mathlib.Core.Path.{_≡_, refl, sym, ap, _∙_}
-use lib.ListN.{length, getD}
+use mathlib.Core.Path.{_≡_, sym, ap, _∙_}
 use borrow.Author.Needs.{needs}
 use mathlib.Core.Bool.{not}
 use lib.Bits.{bitAnd}
@@ -11,7 +9,6 @@ use Rattle.tables.specs.Catalogues.{schemeOf}
 use borrow.Author.Tests.{eq-eqb, ne-eqb}
 use Rattle.keys.specs.Keys.{bitsPerRow}
 use Rattle.keys.proofs.SetLaws.{in-at, in-length}
-use Rattle.disjunction.specs.Sets.{at}
 use Rattle.rows.specs.World.{setOf}
 use Rattle.sets.specs.Promises.{joinsIn}
 use Rattle.sets.proofs.Joining.{join-absent, join-there, join-mask}

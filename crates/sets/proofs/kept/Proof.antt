@@ -1,19 +1,15 @@
 -- `sets::kept` meets its contract. Invariant: the tables passed are as the drop leaves them (`Keeping`). Assumes nothing.
 use borrow.Author.Needs.{needs}
 use native.Mathlib.Omega.{arith}
-use Prim.Native.Nat.{ℕ, _+_, _-_, _*_, _^_, _≤_, _<_}
-use mathlib.Core.Path.{_≡_, refl, sym, ap, _∙_}
-use lib.ListN.{length, getD}
+use Prim.Native.Nat.{_+_, _-_, _*_, _≤_}
+use mathlib.Core.Path.{_≡_, refl, _∙_}
 use mathlib.Core.Logic.{⊎-elim}
 use Rattle.tables.specs.Sizes.{mostCells}
-use Rattle.tables.specs.Catalogues.{countOf, schemeOf, firstCell}
-use Rattle.tables.proofs.CatalogueLaws.{lawful-all, cells-next}
+use Rattle.tables.specs.Catalogues.{countOf, firstCell}
+use Rattle.tables.proofs.CatalogueLaws.{lawful-all}
 use Rattle.rows.specs.World.{placeOf}
-use Rattle.rows.specs.Named.{There}
 use Rattle.rows.proofs.WorldLaws.{row-room}
 use Rattle.rows.proofs.NamedLaws.{row-small}
-use Rattle.sets.specs.Merged.{Merged, only}
-use Rattle.sets.proofs.MergedLaws.{merged-none, merged-add, only-more}
 use Rattle.sets.proofs.RowTestLaws.{start-of, table-room, table-next}
 use Rattle.sets.proofs.Dropping.{merged-one, Keeping, keep-start, keep-stay, keep-gone, keep-end}
 use Rattle.sets.proofs.kept.Statement.{statement}
@@ -62,10 +58,14 @@ parted-requires : tie.Need-parted-requires Inv-loop μ-loop
 parted-requires c κs =
     let l = c .before .before in
     let m = l .before .before in
-    let s = m .before .before .before .before .before in
-    (s .pre .0, s .pre .1, c .before .loop-test .taken, l .loop .inv .place,
-    merged-one _ _ _ (s .pre .0) _ _ _ _ _ _ (s .pre .2) (m .before .before .before .first-cell .ensures) refl (m .merge-add .ensures),
-    s .pre .2 .low)
+    let s = m .before .before .before .before .before in (
+      s .pre .0,
+      s .pre .1,
+      c .before .loop-test .taken,
+      l .loop .inv .place,
+      merged-one _ _ _ (s .pre .0) _ _ _ _ _ _ (s .pre .2) (m .before .before .before .first-cell .ensures) refl (m .merge-add .ensures),
+      s .pre .2 .low,
+    )
 
 with-row-requires-2 : tie.Need-with-row-requires-2 Inv-loop μ-loop
 with-row-requires-2 c κs = search needs

@@ -1,11 +1,7 @@
 -- `sets::merge_add` meets its contract: the row lies among the cells, so nothing wraps. Assumes nothing.
 use native.Mathlib.Omega.{arith}
-use Prim.Native.Nat.{ℕ, _+_, _-_, _*_, _^_, _≤_, _<_}
-use mathlib.Core.Path.{_≡_, refl, sym, ap, _∙_}
-use lib.ListN.{length, getD}
+use mathlib.Core.Path.{refl}
 use borrow.Author.Needs.{needs}
-use lib.Count.{ones}
-use Rattle.sets.specs.Merged.{rowIn, Joined}
 use Rattle.sets.proofs.merge_add.Statement.{statement}
 use Rattle.sets.proofs.merge_add.Tie as tie
 

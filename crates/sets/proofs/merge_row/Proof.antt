@@ -1,9 +1,5 @@
 -- `sets::merge_row` meets its contract. Invariant: the codes are merged but for the bits that are left (`Merging`). The mask falls. Assumes nothing.
 use borrow.Author.Needs.{needs}
-use native.Mathlib.Omega.{arith}
-use Prim.Native.Nat.{ℕ, _+_, _-_, _*_, _^_, _≤_, _<_}
-use mathlib.Core.Path.{_≡_, refl, sym, ap, _∙_}
-use lib.ListN.{length, getD}
 use Rattle.sets.proofs.MatchLaws.{bit-fewer, Merging, merge-start, merge-next, merge-end}
 use Rattle.sets.proofs.merge_row.Statement.{statement}
 use Rattle.sets.proofs.merge_row.Tie as tie

@@ -1,15 +1,14 @@
 -- `sets::merge_set` meets its contract. Invariant: the merged row is that of the rows below table u (`upTo`). Assumes nothing.
 use borrow.Author.Needs.{needs}
 use native.Mathlib.Omega.{arith}
-use Prim.Native.Nat.{ℕ, _+_, _-_, _*_, _^_, _≤_, _<_}
-use mathlib.Core.Path.{_≡_, refl, sym, ap, _∙_}
-use lib.ListN.{length, getD}
+use Prim.Native.Nat.{_+_, _-_, _*_, _≤_}
+use mathlib.Core.Path.{_≡_, refl, sym, _∙_}
 use mathlib.Core.Logic.{⊎-elim}
 use Rattle.keys.specs.Keys.{bitsPerRow}
 use Rattle.keys.proofs.SetLaws.{in-at, in-length}
 use Rattle.tables.specs.Sizes.{mostCells}
-use Rattle.tables.specs.Catalogues.{countOf, schemeOf, firstCell, rowStart}
-use Rattle.tables.proofs.CatalogueLaws.{cells-next, table-ends}
+use Rattle.tables.specs.Catalogues.{countOf, firstCell}
+use Rattle.tables.proofs.CatalogueLaws.{cells-next}
 use Rattle.rows.specs.World.{setOf}
 use Rattle.rows.proofs.WorldLaws.{row-room}
 use Rattle.sets.specs.Merged.{Merged}

@@ -1,22 +1,17 @@
 -- `sets::parted` meets its contract, by one law for each way (`parts-own`, `parts-none`, `parts-fits`). Assumes nothing.
 use native.Mathlib.Omega.{arith}
-use Prim.Native.Nat.{ℕ, _+_, _-_, _*_, _^_, _≤_, _<_}
-use mathlib.Core.Path.{_≡_, refl, sym, ap, _∙_}
-use lib.ListN.{length, getD}
+use Prim.Native.Nat.{_+_, _-_, _*_, _≤_}
+use mathlib.Core.Path.{_≡_, sym, ap, _∙_}
+use lib.ListN.{length}
 use borrow.Author.Needs.{needs}
-use mathlib.Core.Bool.{Bool, not}
+use mathlib.Core.Bool.{not}
 use lib.Count.{ones}
-use Rattle.keys.specs.Keys.{bitsPerRow, rowOf}
+use Rattle.keys.specs.Keys.{bitsPerRow}
 use Rattle.keys.proofs.SetLaws.{in-at}
-use Rattle.tables.specs.Catalogues.{schemeOf, rowStart}
-use Rattle.disjunction.specs.Sets.{at}
-use Rattle.rows.specs.World.{worldOf, setOf, placeOf, fitsIn}
-use Rattle.rows.specs.Named.{There}
-use Rattle.rows.proofs.WorldLaws.{row-room}
-use Rattle.sets.specs.Merged.{rowIn}
+use Rattle.tables.specs.Catalogues.{schemeOf}
+use Rattle.rows.specs.World.{worldOf, setOf, placeOf}
 use Rattle.sets.specs.Promises.{parts}
 use Rattle.sets.proofs.MergedLaws.{shared-under}
-use Rattle.sets.proofs.RowTestLaws.{start-of}
 use Rattle.sets.proofs.Dropping.{parts-own, parts-none, member-room, parts-answer}
 use Rattle.sets.proofs.parted.Statement.{statement}
 use Rattle.sets.proofs.parted.Tie as tie

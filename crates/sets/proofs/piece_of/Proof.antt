@@ -2,9 +2,8 @@
 -- Assumes nothing.
 use borrow.Author.Needs.{needs}
 use native.Mathlib.Omega.{arith}
-use Prim.Native.Nat.{ℕ, _+_, _-_, _*_, _^_, _≤_, _<_}
-use mathlib.Core.Path.{_≡_, refl, sym, ap, _∙_}
-use lib.ListN.{length, getD}
+use Prim.Native.Nat.{ℕ, _-_, _<_}
+use mathlib.Core.Path.{_≡_, ap, _∙_}
 use Rattle.keys.specs.Keys.{bitsPerRow, rowOf, withRow}
 use Rattle.keys.proofs.KeyLaws.{row-lt}
 use Rattle.disjunction.specs.Sets.{size}

@@ -1,8 +1,4 @@
 -- `sets::trial_set` meets its contract: its three calls are the rule's three steps (`tried`). Assumes nothing.
-use native.Mathlib.Omega.{arith}
-use Prim.Native.Nat.{ℕ, _+_, _-_, _*_, _^_, _≤_, _<_}
-use mathlib.Core.Path.{_≡_, refl, sym, ap, _∙_}
-use lib.ListN.{length, getD}
 use borrow.Author.Needs.{needs}
 use Rattle.tables.proofs.CatalogueLaws.{lawful-all}
 use Rattle.sets.proofs.Trials.{kept-here, start-named, tried}
