@@ -278,8 +278,8 @@ fn joins(cat: Catalogue, all: u64, part: u64, attrs: u64, u: usize) -> bool
     if keys::row_of(part, u) != 0 {
         return false;
     }
-    let shared = cat.schemes[u] & attrs;
-    if shared == 0 {
+    let touched = cat.schemes[u] & attrs;
+    if touched == 0 {
         return false;
     }
     true
