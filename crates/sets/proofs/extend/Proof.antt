@@ -122,10 +122,9 @@ loop-again c =
     let f = c .before .before .before in
     let w = f .before .before .before in
     let l = w .before in
-    let s = start l in
-    let z : (l .loop .tests + countOf (s .args .t1) (l .loop .t)) - l .before .rounds .tests ≡ (l .loop .tests - l .before .rounds .tests) + countOf (s .args .t1) (l .loop .t) = omega (arith, l .loop .inv .0) in (
+    let s = start l in (
       omega (arith, l .loop .inv .0),
-      rw z (passed-next _ (s .args .cells .now) _ _ _ _ _ (turn w) (l .loop .inv .1) (f .find-in .ensures) (omega (arith, c .before .before .if1 .left)) _ (c .width .ensures)),
+      passed-next _ (s .args .cells .now) _ _ _ _ _ (turn w) (l .loop .inv .1) (f .find-in .ensures) (omega (arith, c .before .before .if1 .left)) _ (c .width .ensures) _ (omega (arith, l .loop .inv .0)),
     )
 
 mul-merge-add : tie.Need-mul-merge-add Inv-loop μ-loop Inv-rounds μ-rounds
