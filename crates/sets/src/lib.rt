@@ -198,14 +198,8 @@ pub fn extend(cat: Catalogue, cells: &[u64], from: u64) -> Grown
             t += 1;
         };
         let table = found.table;
-        attrs = merge_add(
-            cells,
-            cat.schemes[table],
-            base,
-            found.row,
-            attrs,
-            &mut merged,
-        );
+        let scheme = cat.schemes[table];
+        attrs = merge_add(cells, scheme, base, found.row, attrs, &mut merged);
         key = keys::with_row(key, table, found.row as u64);
     }
     Grown { key, tests }
