@@ -74,12 +74,12 @@ module _ (cat : Catalogue) (cells : List ℕ) where
             rw (← q, place-of t (j - rowsBefore cat t) l (omega arith)) (h (j - rowsBefore cat t) (omega arith))
 
     module _ (t base c i : ℕ) (l : t < cat .n) (p : Passed cat cells T t base c) (f : FirstIn (countOf cat t) (λ q. rowTest W T (record { table = t; row = suc q })) i) where
-      pub passed-next : countOf cat t ≤ i → (w : ℕ) → w ≡ ones (schemeOf cat t) → Passed cat cells T (t + 1) (base + countOf cat t * w) (c + countOf cat t)
-      passed-next b w e =
+      pub passed-next : countOf cat t ≤ i → (w : ℕ) → w ≡ ones (schemeOf cat t) → (c′ : ℕ) → c′ ≡ c + countOf cat t → Passed cat cells T (t + 1) (base + countOf cat t * w) c′
+      passed-next b w e c′ more =
           record {
             turn = omega arith;
             place = rw e (omega (arith, p .place, cells-next cat t));
-            count = omega (arith, p .count, rows-next cat t);
+            count = omega (arith, more, p .count, rows-next cat t);
             clear = λ j h. clear-more t base c i l (f .within) p (f .before) j (omega (arith, h, rows-next cat t));
           }
 

@@ -198,14 +198,8 @@ pub fn extend(cat: Catalogue, cells: &[u64], from: u64) -> Grown
             t += 1;
         };
         let table = found.table;
-        attrs = merge_add(
-            cells,
-            cat.schemes[table],
-            base,
-            found.row,
-            attrs,
-            &mut merged,
-        );
+        let scheme = cat.schemes[table];
+        attrs = merge_add(cells, scheme, base, found.row, attrs, &mut merged);
         key = keys::with_row(key, table, found.row as u64);
     }
     Grown { key, tests }
@@ -278,14 +272,15 @@ fn joins(cat: Catalogue, all: u64, part: u64, attrs: u64, u: usize) -> bool
     if keys::row_of(part, u) != 0 {
         return false;
     }
-    let shared = cat.schemes[u] & attrs;
-    if shared == 0 {
+    let touched = cat.schemes[u] & attrs;
+    if touched == 0 {
         return false;
     }
     true
 }
 
 // The first table whose row of the set `all` joins the part; n where none does.
+// A loop of its own, so that the piece grows by one table a turn.
 fn first_joining(cat: Catalogue, all: u64, part: u64, attrs: u64) -> usize
     requires { ⌜ Lawful cat mostCells × Attributes cat (at (setOf cat part)) attrs ⌝ }
     ensures { λ r. ⌜ FirstIn (cat .n) (joinsIn cat (setOf cat all) (setOf cat part)) r ⌝ }
@@ -322,7 +317,8 @@ fn piece_of(cat: Catalogue, all: u64, x: Row) -> u64
     }
 }
 
-// "Trial of row s on set T: drop ..; add s; keep the piece that holds s; extend." The search is the caller's.
+// "Trial of row s on set T: drop ..; add s; keep the piece that holds s; extend."
+// The search for the set it comes to is the caller's, who has the store.
 pub fn trial_set(cat: Catalogue, cells: &[u64], key: u64, row: Row) -> Grown
     requires { ⌜ Lawful cat (length (now cells)) × Named cat key × There cat (row .table) (row .row) ⌝ }
     ensures { λ e. ⌜ Comes cat (trial (worldOf cat (now (cells .entry))) (setOf cat key) (placeOf row)) (e .key) (e .tests) ⌝ }

@@ -122,18 +122,17 @@ loop-again c =
     let f = c .before .before .before in
     let w = f .before .before .before in
     let l = w .before in
-    let s = start l in
-    let z : (l .loop .tests + countOf (s .args .t1) (l .loop .t)) - l .before .rounds .tests ≡ (l .loop .tests - l .before .rounds .tests) + countOf (s .args .t1) (l .loop .t) = omega (arith, l .loop .inv .0) in (
+    let s = start l in (
       omega (arith, l .loop .inv .0),
-      rw z (passed-next _ (s .args .cells .now) _ _ _ _ _ (turn w) (l .loop .inv .1) (f .find-in .ensures) (omega (arith, c .before .before .if1 .left)) _ (c .width .ensures)),
+      passed-next _ (s .args .cells .now) _ _ _ _ _ (turn w) (l .loop .inv .1) (f .find-in .ensures) (omega (arith, c .before .before .if1 .left)) _ (c .width .ensures) _ (omega (arith, l .loop .inv .0)),
     )
 
-mul-merge-add : tie.Need-mul-merge-add Inv-loop μ-loop Inv-rounds μ-rounds
-mul-merge-add c = search needs
+mul-scheme : tie.Need-mul-scheme Inv-loop μ-loop Inv-rounds μ-rounds
+mul-scheme c = search needs
 
-element-copy-out-merge-add :
-    tie.Need-element-copy-out-merge-add Inv-loop μ-loop Inv-rounds μ-rounds
-element-copy-out-merge-add c = search needs
+element-copy-out-scheme :
+    tie.Need-element-copy-out-scheme Inv-loop μ-loop Inv-rounds μ-rounds
+element-copy-out-scheme c = search needs
 
 merge-add-requires : tie.Need-merge-add-requires Inv-loop μ-loop Inv-rounds μ-rounds
 merge-add-requires c κs =
@@ -207,8 +206,8 @@ extend-spec =
     add-t
     loop-less
     loop-again
-    mul-merge-add
-    element-copy-out-merge-add
+    mul-scheme
+    element-copy-out-scheme
     merge-add-requires
     with-row-requires
     rounds-less

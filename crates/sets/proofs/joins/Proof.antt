@@ -16,7 +16,7 @@ use Rattle.sets.proofs.joins.Statement.{statement}
 use Rattle.sets.proofs.joins.Tie as tie
 
 -- the masks decide
-answer : (c : tie.After-shared)
+answer : (c : tie.After-touched)
     → joinsIn (c .before .before .before .before .before .args .t1) (setOf (c .before .before .before .before .before .args .t1) (c .before .before .before .before .before .args .all))
     (setOf (c .before .before .before .before .before .args .t1) (c .before .before .before .before .before .args .part)) (c .before .before .before .before .before .args .u)
     ≡ not (eqb (bitAnd (schemeOf (c .before .before .before .before .before .args .t1) (c .before .before .before .before .before .args .u)) (c .before .before .before .before .before .args .attrs)) 0)
@@ -43,11 +43,11 @@ returns-2 c =
     let s = c .before .before .before .before in
     sym (join-there (s .args .t1) (setOf (s .args .t1) (s .args .all)) _ _ (in-length bitsPerRow _ (s .args .part)) (λ z. c .if2 .taken (c .before .row-of2 .ensures ∙ sym (in-at bitsPerRow _ _ _ (s .pre .1)) ∙ z)))
 
-mul-shared : tie.Need-mul-shared
-mul-shared c = search needs
+mul-touched : tie.Need-mul-touched
+mul-touched c = search needs
 
-element-copy-out-shared : tie.Need-element-copy-out-shared
-element-copy-out-shared c = search needs
+element-copy-out-touched : tie.Need-element-copy-out-touched
+element-copy-out-touched c = search needs
 
 returns-3 : tie.Need-returns-3
 returns-3 c = sym (answer (c .before) ∙ ap not (eq-eqb _ 0 (c .if3 .taken)))
@@ -63,7 +63,7 @@ joins-spec =
     returns
     row-of-requires-2
     returns-2
-    mul-shared
-    element-copy-out-shared
+    mul-touched
+    element-copy-out-touched
     returns-3
     returns-4)
