@@ -17,8 +17,7 @@ use Rattle.store.specs.Store.{roomIn, searchOf, added, answerOf, storeAfter}
 use Rattle.store.specs.declared.Looked.{Looked}
 use Rattle.store.specs.declared.Looked.the-variants.{Found, Absent, Damaged}
 use Rattle.store.specs.declared.Placed.the-variants.{Added, Full}
-use Rattle.store.proofs.StoreLaws as Laws
-use Rattle.store.proofs.StoreLaws.{room-added, copy-search, copy-added}
+use Rattle.store.proofs.StoreLaws.{absent-place, room-added, copy-search, copy-added}
 use Rattle.machine.specs.Machine.{State, keyAt, Trial, done, full, damaged, raised, placed, offered, deepest, trialDue, trialOn}
 use Rattle.claims.specs.Demands.{Copy}
 
@@ -88,7 +87,7 @@ module _ (q r : State) (c : Copy q r) (h : roomIn (q .store) ≤ roomIn (r .stor
   unfolding offered
   offer-copy deepest =
       rw (copy-search (q .store) (r .store) key deepest (c .store) some)
-      (byLooked (searchOf (q .store) key deepest) (λ p s n e. Laws.absent-place (q .store) key deepest some (sym e)))
+      (byLooked (searchOf (q .store) key deepest) (λ p s n e. absent-place (q .store) key deepest some (sym e)))
 
 module _ (cat : Catalogue) (cells : List ℕ) where
   pub trial-copy : (q r : State) → Copy q r → roomIn (q .store) ≤ roomIn (r .store) → 0 < q .store .found → q .taken ≤ q .store .found

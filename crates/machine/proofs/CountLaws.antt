@@ -9,9 +9,8 @@ use Rattle.tables.specs.declared.Catalogue.{Catalogue}
 use Rattle.tables.specs.Catalogues.{total}
 use Rattle.tables.specs.Checks.{Lawful}
 use Rattle.tables.proofs.CatalogueLaws.{rows-few}
-use Rattle.machine.specs.Machine.{State, deepest, finished, working, refused, Called, answer, Fit, work}
+use Rattle.machine.specs.Machine.{State, deepest, finished, working, refused, Called, answer, piled, Fit, work}
 use Rattle.machine.proofs.WorkLaws.{handing, by-ways}
-use Rattle.machine.proofs.LoopLaws.{piled}
 use Rattle.machine.proofs.TrialLaws.{trial-fit}
 
 -- What is known of the counts of call s, made with budget b in state q.

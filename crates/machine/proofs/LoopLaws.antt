@@ -9,8 +9,7 @@ use mathlib.Core.List.{List}
 use Rattle.tables.specs.declared.Catalogue.{Catalogue}
 use Rattle.tables.specs.Catalogues.{total}
 use Rattle.rows.specs.Named.{named}
-pub use Rattle.machine.specs.Machine.{piled}
-use Rattle.machine.specs.Machine.{State, Trial, done, full, damaged, trialOn, Says, aSet, finished, working, refused, Called, counted, afterTrial, takenOf, keyDue, paddedIn, work}
+use Rattle.machine.specs.Machine.{State, Trial, done, full, damaged, trialOn, Says, aSet, finished, working, refused, Called, counted, piled, afterTrial, takenOf, keyDue, paddedIn, work}
 use Rattle.machine.proofs.WorkLaws.{work-ends, work-hands, work-lost, work-spent, work-trial}
 
 -- What the code gives in the end, with these counts.
