@@ -9,3 +9,4 @@ pub mod Demanded
 pub mod Copies
 pub mod Longers
 pub mod Frauds
+pub mod Edged

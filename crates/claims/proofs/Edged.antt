@@ -1,0 +1,36 @@
+-- The P list, each item computed from the definitions. Assumes nothing.
+use mathlib.Core.Path.{refl}
+use lib.Count.{ones, onesIn}
+use Rattle.laws.specs.Tests.{any, all}
+use Rattle.laws.specs.Lists.{tab}
+use Rattle.words.specs.Words.{bitOf}
+use Rattle.numbers.specs.Numbers.{decode}
+use Rattle.keys.specs.Keys.{rowOf, keyOf, rowsIn}
+use Rattle.tables.specs.Catalogues.{firstCell, rowStart, rowsBefore}
+use Rattle.tables.specs.Rows.{below}
+use Rattle.tables.specs.Checks.{sizeFault, badScheme, countFault, tableFault, tablesFault, catalogueFault}
+use Rattle.disjunction.specs.Rule.{rowsTo, rowsBelow, member, absent, near, agrees, rowTest, walk, grow, extension, stays, dropped, alone, joins, membersBelow, piece, start, trial}
+use Rattle.disjunction.specs.Cells.{same, sharing, matching, gives, codeBelow, padded}
+use Rattle.rows.specs.World.{touchesIn, fitsIn}
+use Rattle.rows.specs.Named.{missing, beyond, named}
+use Rattle.store.specs.Store as Store
+use Rattle.store.specs.Store.{linkOf, searchOf, filed, added, answerOf, storeAfter}
+use Rattle.image.specs.Reading.{runEnd, codes, rowsFrom}
+use Rattle.image.specs.Load.{fieldAt, countAt, tableAt, tablesFrom, scanOf, tablesCodes}
+use Rattle.image.proofs.Edges.{number-edges, image-edges}
+use Rattle.machine.specs.Machine.{placed, offered, trialOn, handOut, dueOr, work, unfit, callFault, call, openFault, begun, opening}
+use Rattle.machine.specs.Runs.{runOf, handed}
+use Rattle.claims.specs.Edges.{callsOn, saysIn, Edges}
+
+pub edges : Edges
+unfolding callsOn saysIn handed runOf call callFault work unfit dueOr handOut trialOn offered placed answerOf storeAfter added Store.named searchOf Store.walk linkOf opening openFault begun catalogueFault sizeFault tablesFault tableFault badScheme countFault firstCell rowStart rowsBefore named missing beyond rowsIn rowOf keyOf filed bitOf ones onesIn touchesIn fitsIn sharing matching same trial start piece joins membersBelow dropped stays tab extension grow walk rowTest near agrees absent member rowsBelow rowsTo alone any all padded codeBelow gives decode below runEnd codes rowsFrom fieldAt countAt tableAt tablesFrom scanOf tablesCodes
+edges =
+    record {
+      numbers = number-edges;
+      images = image-edges;
+      at-once = refl;
+      one-set = refl;
+      its-key = refl;
+      values-whole = refl;
+      nulls-apart = refl;
+    }

@@ -1,0 +1,47 @@
+-- "The items marked P below form one list under one claim, shown from the definitions." The list, in document 01's order; proofs/Edged proves it.
+-- Assumes nothing.
+use Prim.Native.Nat.{ℕ}
+use mathlib.Core.Path.{_≡_}
+use mathlib.Core.Bool.{false}
+use mathlib.Core.List.{List, [], _∷_}
+use lib.ListN.{replicate}
+use Rattle.tables.specs.declared.Catalogue.{Catalogue}
+use Rattle.tables.specs.Sizes.{mostCells}
+use Rattle.rows.specs.World.{fitsIn}
+use Rattle.image.specs.Load.{firstTable, scanOf, tablesCodes}
+use Rattle.image.specs.Edges.{NumberEdges, ImageEdges}
+use Rattle.machine.specs.Machine.{Says, aSet, finished, Called, call, opening}
+use Rattle.machine.specs.Runs.{Given, runOf, handed}
+
+-- The calls of a stream on what an image loads to, in a store of four records that starts as zeros, each with a budget of two trials and a padded
+-- row of one cell.
+abbrev pub twoTrials : Given
+twoTrials = record { budget = 2; row = 0 ∷ [] }
+
+unfoldable pub callsOn : List ℕ → List Given → List Called
+callsOn image gs =
+    let cat = scanOf image mostCells .catalogue in
+    let cells = tablesCodes (cat .n) image firstTable in
+    runOf (call cat cells) gs (opening cat cells (replicate 4 0) (replicate 4 0) (replicate 4 0) .after)
+
+-- What calls answer.
+unfoldable pub saysIn : List Called → List Says
+saysIn [] = []
+saysIn (s ∷ l) = s .says ∷ saysIn l
+
+-- Two tables over the one attribute 0, each with one row.
+abbrev pub pair : Catalogue
+pair = record { m = 1; n = 2; schemes = 1 ∷ 1 ∷ replicate 6 0; rows = 1 ∷ 1 ∷ replicate 6 0 }
+
+pub record Edges : Type 0 where
+  pub numbers : NumberEdges
+  pub images : ImageEdges
+  -- "P `01 01 01 01 00`, good, N = 0, finished at once."
+  pub at-once : saysIn (callsOn (0x01 ∷ 0x01 ∷ 0x01 ∷ 0x01 ∷ 0x00 ∷ []) (twoTrials ∷ [])) ≡ finished ∷ []
+  -- "P `01 01 01 01 01 00`, good, one null row, one set."
+  pub one-set : saysIn (callsOn (0x01 ∷ 0x01 ∷ 0x01 ∷ 0x01 ∷ 0x01 ∷ 0x00 ∷ []) (twoTrials ∷ twoTrials ∷ [])) ≡ aSet ∷ finished ∷ []
+  pub its-key : handed (callsOn (0x01 ∷ 0x01 ∷ 0x01 ∷ 0x01 ∷ 0x01 ∷ 0x00 ∷ []) (twoTrials ∷ twoTrials ∷ [])) ≡ 1 ∷ []
+  -- "P Values 10 and 4,294,967,306 are not consistent." A cell's code is its value plus 1.
+  pub values-whole : fitsIn pair (11 ∷ 4294967307 ∷ []) 0 1 1 1 ≡ false
+  -- "P Null and null are not."
+  pub nulls-apart : fitsIn pair (0 ∷ 0 ∷ []) 0 1 1 1 ≡ false
