@@ -4,4 +4,3 @@ pub mod TrialLaws
 pub mod CountLaws
 pub mod RefusalLaws
 pub mod Sample
-pub mod Edges
