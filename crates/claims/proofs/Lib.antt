@@ -10,3 +10,4 @@ pub mod Copies
 pub mod Longers
 pub mod Frauds
 pub mod Edged
+pub mod Determined

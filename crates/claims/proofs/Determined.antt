@@ -1,0 +1,116 @@
+-- Each promise is an equation with a definition, so two outcomes are equal to the same thing; of the stream's, part by part. Assumes nothing.
+use Prim.Native.Nat.{ℕ}
+use native.Mathlib.Omega.{arith}
+use mathlib.Core.Path.{_≡_, refl, sym, ap, _∙_}
+use mathlib.Core.List.{List}
+use Rattle.store.specs.Store.{Store}
+use Rattle.machine.specs.Machine.{State, Says, aSet, finished, working, refused, Called, Opened}
+use Rattle.stream.specs.declared.StreamRecord.{StreamRecord}
+use Rattle.stream.specs.declared.Answer.{Answer}
+use Rattle.stream.specs.declared.Answer.the-variants.{Set, Finished, Working, Refused}
+use Rattle.stream.specs.declared.OpenAnswer.{OpenAnswer}
+use Rattle.stream.specs.declared.StepAnswer.{StepAnswer}
+use Rattle.stream.specs.Promises.{stateOf, saysOf, calledOf, openedOf}
+use Rattle.image.specs.declared.Loaded.{Loaded}
+use Rattle.image.specs.declared.Written.{Written}
+use Rattle.image.specs.Load.{firstTable, tablesCodes, cellsAfter, Loads}
+use Rattle.image.specs.Write.{imageOf, bytesAfter, Writes}
+use Rattle.tables.specs.declared.Catalogue.{Catalogue}
+use Rattle.claims.specs.Outcomes.{OneOutcome}
+
+-- ---- the image
+
+loads-one : (s lent : List ℕ) (r r′ : Loaded) (after after′ : List ℕ) → Loads s lent r after → Loads s lent r′ after′ → (r ≡ r′) × (after ≡ after′)
+loads-one s lent r r′ after after′ l l′ =
+    let e : r ≡ r′ = l .answer ∙ sym (l′ .answer) in
+    (e, l .cells ∙ ap (λ (x : Loaded). cellsAfter (x .verdict) (tablesCodes (x .catalogue .n) s firstTable) lent) e ∙ sym (l′ .cells))
+
+writes-one : (cat : Catalogue) (cells lent : List ℕ) (r r′ : Written) (after after′ : List ℕ)
+    → Writes cat cells lent r after → Writes cat cells lent r′ after′ → (r ≡ r′) × (after ≡ after′)
+writes-one cat cells lent r r′ after after′ l l′ =
+    let e : r ≡ r′ = l .answer ∙ sym (l′ .answer) in
+    (e, l .bytes ∙ ap (λ (x : Written). bytesAfter x (imageOf cat cells) lent) e ∙ sym (l′ .bytes))
+
+-- ---- the stream
+
+-- A state tells its record and its lists.
+state-one : (s s′ : StreamRecord) (ks ls rs ks′ ls′ rs′ : List ℕ) → stateOf s ks ls rs ≡ stateOf s′ ks′ ls′ rs′ → (s ≡ s′) × (ks ≡ ks′) × (ls ≡ ls′) × (rs ≡ rs′)
+state-one s s′ ks ls rs ks′ ls′ rs′ e =
+    let f : s .found ≡ s′ .found = ap (λ (q : State). q .store .found) e in
+    let t : s .taken ≡ s′ .taken = ap (λ (q : State). q .taken) e in
+    let n : s .«next_row» ≡ s′ .«next_row» = ap (λ (q : State). q .next) e in
+    (same f t n, ap (λ (q : State). q .store .keys) e, ap (λ (q : State). q .store .left) e, ap (λ (q : State). q .store .right) e)
+  where
+    made : ℕ → ℕ → ℕ → StreamRecord
+    made f t n = record { found = f; taken = t; «next_row» = n }
+
+    same : s .found ≡ s′ .found → s .taken ≡ s′ .taken → s .«next_row» ≡ s′ .«next_row» → s ≡ s′
+    same f t n =
+        ap (λ (x : ℕ). made x (s .taken) (s .«next_row»)) f ∙ ap (λ (x : ℕ). made (s′ .found) x (s .«next_row»)) t ∙ ap (made (s′ .found) (s′ .taken)) n
+
+opens-one : (r r′ : OpenAnswer) (ks ls rs ks′ ls′ rs′ : List ℕ) → openedOf r ks ls rs ≡ openedOf r′ ks′ ls′ rs′ → (r ≡ r′) × (ks ≡ ks′) × (ls ≡ ls′) × (rs ≡ rs′)
+opens-one r r′ ks ls rs ks′ ls′ rs′ e =
+    let k : r .refusal ≡ r′ .refusal = ap (λ (o : Opened). o .refusal) e in
+    let t : r .tests ≡ r′ .tests = ap (λ (o : Opened). o .tests) e in
+    let q = state-one (r .stream) (r′ .stream) ks ls rs ks′ ls′ rs′ (ap (λ (o : Opened). o .after) e) in
+    (same k t (q .0), q .1, q .2, q .3)
+  where
+    made : ℕ → ℕ → StreamRecord → OpenAnswer
+    made k t s = record { refusal = k; tests = t; stream = s }
+
+    same : r .refusal ≡ r′ .refusal → r .tests ≡ r′ .tests → r .stream ≡ r′ .stream → r ≡ r′
+    same k t s =
+        ap (λ (x : ℕ). made x (r .tests) (r .stream)) k ∙ ap (λ (x : ℕ). made (r′ .refusal) x (r .stream)) t ∙ ap (made (r′ .refusal) (r′ .tests)) s
+
+-- The paper's words tell the answers apart.
+says-one : (a a′ : Answer) → saysOf a ≡ saysOf a′ → a ≡ a′
+says-one Set Set e = refl
+says-one Set Finished e = absurd (let z : _≡_ {A = ℕ} 0 1 = cc in omega arith)
+says-one Set Working e = absurd (let z : _≡_ {A = ℕ} 0 1 = cc in omega arith)
+says-one Set (Refused k) e = absurd (let z : _≡_ {A = ℕ} 0 1 = cc in omega arith)
+says-one Finished Set e = absurd (let z : _≡_ {A = ℕ} 0 1 = cc in omega arith)
+says-one Finished Finished e = refl
+says-one Finished Working e = absurd (let z : _≡_ {A = ℕ} 0 1 = cc in omega arith)
+says-one Finished (Refused k) e = absurd (let z : _≡_ {A = ℕ} 0 1 = cc in omega arith)
+says-one Working Set e = absurd (let z : _≡_ {A = ℕ} 0 1 = cc in omega arith)
+says-one Working Finished e = absurd (let z : _≡_ {A = ℕ} 0 1 = cc in omega arith)
+says-one Working Working e = refl
+says-one Working (Refused k) e = absurd (let z : _≡_ {A = ℕ} 0 1 = cc in omega arith)
+says-one (Refused k) Set e = absurd (let z : _≡_ {A = ℕ} 0 1 = cc in omega arith)
+says-one (Refused k) Finished e = absurd (let z : _≡_ {A = ℕ} 0 1 = cc in omega arith)
+says-one (Refused k) Working e = absurd (let z : _≡_ {A = ℕ} 0 1 = cc in omega arith)
+says-one (Refused k) (Refused j) e = let q : k ≡ j = cc in ap (λ (x : ℕ). Refused x) q
+
+steps-one : (r r′ : StepAnswer) (ks ls rs w ks′ ls′ rs′ w′ : List ℕ) → calledOf r ks ls rs w ≡ calledOf r′ ks′ ls′ rs′ w′
+    → (r ≡ r′) × (ks ≡ ks′) × (ls ≡ ls′) × (rs ≡ rs′) × (w ≡ w′)
+steps-one r r′ ks ls rs w ks′ ls′ rs′ w′ e =
+    let a : r .answer ≡ r′ .answer = says-one (r .answer) (r′ .answer) (ap (λ (c : Called). c .says) e) in
+    let k : r .key ≡ r′ .key = ap (λ (c : Called). c .key) e in
+    let n : r .trials ≡ r′ .trials = ap (λ (c : Called). c .trials) e in
+    let t : r .tests ≡ r′ .tests = ap (λ (c : Called). c .tests) e in
+    let l : r .looks ≡ r′ .looks = ap (λ (c : Called). c .looks) e in
+    let q = state-one (r .stream) (r′ .stream) ks ls rs ks′ ls′ rs′ (ap (λ (c : Called). c .after) e) in
+    (same a k n t l (q .0), q .1, q .2, q .3, ap (λ (c : Called). c .row) e)
+  where
+    made : Answer → ℕ → ℕ → ℕ → ℕ → StreamRecord → StepAnswer
+    made a k n t l s = record { answer = a; key = k; trials = n; tests = t; looks = l; stream = s }
+
+    same : r .answer ≡ r′ .answer → r .key ≡ r′ .key → r .trials ≡ r′ .trials → r .tests ≡ r′ .tests → r .looks ≡ r′ .looks → r .stream ≡ r′ .stream → r ≡ r′
+    same a k n t l s =
+        ap (λ (x : Answer). made x (r .key) (r .trials) (r .tests) (r .looks) (r .stream)) a
+        ∙ ap (λ (x : ℕ). made (r′ .answer) x (r .trials) (r .tests) (r .looks) (r .stream)) k
+        ∙ ap (λ (x : ℕ). made (r′ .answer) (r′ .key) x (r .tests) (r .looks) (r .stream)) n
+        ∙ ap (λ (x : ℕ). made (r′ .answer) (r′ .key) (r′ .trials) x (r .looks) (r .stream)) t
+        ∙ ap (λ (x : ℕ). made (r′ .answer) (r′ .key) (r′ .trials) (r′ .tests) x (r .stream)) l
+        ∙ ap (made (r′ .answer) (r′ .key) (r′ .trials) (r′ .tests) (r′ .looks)) s
+
+pub determined : OneOutcome
+determined =
+    record {
+      load = loads-one;
+      write = writes-one;
+      «open» = λ cat cells keys left right r r′ ks ls rs ks′ ls′ rs′ e e′. opens-one r r′ ks ls rs ks′ ls′ rs′ (e ∙ sym e′);
+      step = λ cat cells s keys left right row b r r′ ks ls rs w ks′ ls′ rs′ w′ e e′. steps-one r r′ ks ls rs w ks′ ls′ rs′ w′ (e ∙ sym e′);
+      covers = λ first second r r′ e e′. e ∙ sym e′;
+      check = λ s r r′ e e′. e ∙ sym e′;
+    }
