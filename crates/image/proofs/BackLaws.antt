@@ -35,16 +35,12 @@ use Rattle.image.specs.Load.{version, firstTable, fieldAt, onField, onFa
 use Rattle.image.specs.Write.{encodes, cellsOf, tablesImage, tooHigh, rowsFault, tablesRefusal}
 use Rattle.image.specs.RoundTrip.{front, trimmed, found}
 use Rattle.image.proofs.AcceptLaws.{rowsAt, refusal-none, refusal-more}
-use Rattle.image.proofs.ThereLaws.{part-stands, row-cells, or-clear, one-byte, table-codes}
+use Rattle.image.proofs.ReadingLaws.{number-was, run-was, run-add, rows-was, rows-run, row-cells}
+use Rattle.image.proofs.ThereLaws.{part-stands, or-clear, one-byte, table-codes}
 
 -- ---- an answer that is no refusal came by the way that goes on
 
 module _ {A : Type 0} (a : A) where
-  number-was : {P : Type 0} (d : Reading) (go : ℕ → ℕ → A) (refuse : ℕ → A) → ((k : ℕ) → refuse k ≡ a → ⊥) → onNumber d go refuse ≡ a
-      → ((x n : ℕ) → d ≡ Number x n → go x n ≡ a → P) → P
-  number-was (Number x n) go refuse z e f = f x n refl e
-  number-was (NumberFault k) go refuse z e f = absurd (z k e)
-
   entry-was : {P : Type 0} (d : Entry) (go : ℕ → ℕ → ℕ → ℕ → A) (refuse : ℕ → ℕ → A) → ((k p : ℕ) → refuse k p ≡ a → ⊥) → onEntry d go refuse ≡ a
       → ((x c u e : ℕ) → d ≡ Table x c u e → go x c u e ≡ a → P) → P
   entry-was (Table x c u e) go refuse z q f = f x c u e refl q
@@ -57,9 +53,6 @@ module _ {A : Type 0} (a : A) where
   fault-was : (f : ℕ) (refuse : ℕ → A) (y : A) → ((k : ℕ) → refuse k ≡ a → ⊥) → onFault f refuse y ≡ a → (f ≡ 0) × (y ≡ a)
   fault-was zero refuse y z e = (refl, e)
   fault-was (suc k) refuse y z e = absurd (z (suc k) e)
-
-no-walk : (k p e : ℕ) → Fault k p ≡ To e → ⊥
-no-walk k p e q = let z : _≡_ {A = ℕ} 0 1 = cc in omega arith
 
 no-table : (k p x c u e : ℕ) → TableFault k p ≡ Table x c u e → ⊥
 no-table k p x c u e q = let z : _≡_ {A = ℕ} 0 1 = cc in omega arith
@@ -78,20 +71,6 @@ field-was (Value x n) go cat e f = f x n refl e
 field-was (FieldFault k p) go cat e f = absurd (no-good k p cat e)
 
 -- ---- numbers one after the other
-
-run-was : (k : ℕ) (s : List ℕ) (i e : ℕ) → runEnd (suc k) s i ≡ To e → (x : ℕ) × (n : ℕ) × (decode s i ≡ Number x n) × (runEnd k s n ≡ To e)
-unfolding runEnd
-run-was k s i e q = number-was (To e) (decode s i) (λ x n. runEnd k s n) (λ f. Fault f i) (λ f. no-walk f i e) q (λ x n d r. (x, n, d, r))
-
--- w numbers and k behind them
-run-add : (w k : ℕ) (s : List ℕ) (i n : ℕ) → runEnd w s i ≡ To n → (runEnd (w + k) s i ≡ runEnd k s n) × (codes (w + k) s i ≡ codes w s i ++ codes k s n)
-unfolding runEnd codes
-run-add zero k s i n e = let q : i ≡ n = cc in (rw (zero-add, q), rw (zero-add, q))
-run-add (suc w) k s i n e =
-    let t = run-was w s i n e in
-    let a = run-add w k s (t .1) n (t .3) in
-    let m : suc w + k ≡ suc (w + k) = omega arith in
-    (rw (m, t .2) (a .0), rw (m, t .2) (ap (λ (l : List ℕ). t .0 ∷ l) (a .1)))
 
 -- What k numbers that were read say of the bytes.
 record Run (k : ℕ) (s : List ℕ) (i e : ℕ) : Type 0 where
@@ -114,24 +93,6 @@ run-bytes s by (suc k) i e q =
     }
 
 -- ---- rows
-
-rows-was : (k w : ℕ) (s : List ℕ) (first : Bool) (p i e : ℕ) → rowsFrom (suc k) w s first p i ≡ To e
-    → (n : ℕ) × (runEnd w s i ≡ To n) × ((first || below (codes w s p) (codes w s i)) ≡ true) × (rowsFrom k w s false i n ≡ To e)
-unfolding rowsFrom
-rows-was k w s first p i e q = by-walk (runEnd w s i) (first || below (codes w s p) (codes w s i)) (λ n. rowsFrom k w s false i n) q
-  where
-    by-walk : (d : Walk) (b : Bool) (go : ℕ → Walk) → onWalk d (λ n. cond b (go n) (Fault 7 i)) ≡ To e → (n : ℕ) × (d ≡ To n) × (b ≡ true) × (go n ≡ To e)
-    by-walk (To n) true go q = (n, refl, refl, q)
-    by-walk (To n) false go q = absurd (no-walk 7 i e q)
-    by-walk (Fault f y) b go q = absurd (no-walk f y e q)
-
--- The numbers of rows that were read lie one after the other.
-rows-run : (k w : ℕ) (s : List ℕ) (first : Bool) (p i e : ℕ) → rowsFrom k w s first p i ≡ To e → runEnd (k * w) s i ≡ To e
-unfolding runEnd rowsFrom
-rows-run zero w s first p i e q = rw zero-mul q
-rows-run (suc k) w s first p i e q =
-    let t = rows-was k w s first p i e q in
-    rw (row-cells k w) (run-add w (k * w) s i (t .0) (t .1) .0 ∙ rows-run k w s false i (t .0) e (t .3))
 
 -- Rows that were read without fault are not refused by the writer, where their codes lie in the cells from `at` on. `same`: the row before them was written
 -- as it was read, unless they are the first.

@@ -5,8 +5,8 @@ use native.Mathlib.Nat.{zero-mul, suc-mul, zero-add}
 use native.Mathlib.Omega.{arith}
 use native.Mathlib.Numerals.{sub-one}
 use mathlib.Core.Path.{_≡_, refl, sym, ap, _∙_}
-use mathlib.Core.List.{List, [], _∷_}
-use mathlib.Core.Bool.{Bool, true, false, _||_}
+use mathlib.Core.List.{List, [], _∷_, _++_}
+use mathlib.Core.Bool.{Bool, true, false, cond, _||_}
 use lib.ListN.{length}
 use Rattle.numbers.specs.Numbers.{decode}
 use Rattle.numbers.specs.declared.Reading.{Reading}
@@ -14,7 +14,7 @@ use Rattle.numbers.specs.declared.Reading.the-variants.{Number, NumberFault}
 use Rattle.tables.specs.Rows.{below}
 use Rattle.image.specs.declared.Walk.{Walk}
 use Rattle.image.specs.declared.Walk.the-variants.{To, Fault}
-use Rattle.image.specs.Reading.{runEnd, codes, rowsFrom}
+use Rattle.image.specs.Reading.{onNumber, onWalk, runEnd, codes, rowsFrom}
 
 pub run-none : (k : ℕ) (s : List ℕ) (i : ℕ) → k ≤ 0 → runEnd k s i ≡ To i
 unfolding runEnd
@@ -74,44 +74,51 @@ rows-fall (suc k) w s b p i n z e t = rw (e, t)
 pub no-walk : {A : Type 0} (o : Walk) (k p e : ℕ) → o ≡ Fault k p → o ≡ To e → A
 no-walk o k p e a b = absurd (let z : _≡_ {A = ℕ} 0 1 = cc in omega arith)
 
--- numbers lie one behind the other
-run-add-step : (w r : ℕ) (s : List ℕ) (i n : ℕ) → ((m : ℕ) → runEnd w s m ≡ To n → runEnd (w + r) s m ≡ runEnd r s n)
-    → (d : Reading) → decode s i ≡ d → runEnd (suc w) s i ≡ To n → runEnd (suc w + r) s i ≡ runEnd r s n
-run-add-step w r s i n ih (NumberFault f) d e = no-walk _ f i n (run-bad (suc w) s i f (omega arith) d) e
-run-add-step w r s i n ih (Number x m) d e =
-    let k : suc w + r - 1 ≡ w + r = omega arith in
-    let j = run-more (suc w) s i x m (omega arith) d in
-    run-more (suc w + r) s i x m (omega arith) d ∙ rw k (ih m (sym (rw (sub-one (suc w)) at j) ∙ e))
+-- An answer that is no refusal came from a number.
+pub number-was : {A P : Type 0} (a : A) (d : Reading) (go : ℕ → ℕ → A) (refuse : ℕ → A) → ((k : ℕ) → refuse k ≡ a → ⊥) → onNumber d go refuse ≡ a
+    → ((x n : ℕ) → d ≡ Number x n → go x n ≡ a → P) → P
+number-was a (Number x n) go refuse z e f = f x n refl e
+number-was a (NumberFault k) go refuse z e f = absurd (z k e)
 
-run-add : (w r : ℕ) (s : List ℕ) (i n : ℕ) → runEnd w s i ≡ To n → runEnd (w + r) s i ≡ runEnd r s n
-run-add zero r s i n e =
-    let a = run-none zero s i (omega arith) in
-    let q : i ≡ n = cc in
-    rw (zero-add r, q)
-run-add (suc w) r s i n e = run-add-step w r s i n (λ m. run-add w r s m n) (decode s i) refl e
+pub run-was : (k : ℕ) (s : List ℕ) (i e : ℕ) → runEnd (suc k) s i ≡ To e → (x : ℕ) × (n : ℕ) × (decode s i ≡ Number x n) × (runEnd k s n ≡ To e)
+unfolding runEnd
+run-was k s i e q = number-was (To e) (decode s i) (λ x n. runEnd k s n) (λ f. Fault f i) (λ f. no-walk (Fault f i) f i e refl) q (λ x n d r. (x, n, d, r))
 
-codes-length-step : (k : ℕ) (s : List ℕ) (i e : ℕ) → ((m : ℕ) → runEnd k s m ≡ To e → length (codes k s m) ≡ k)
-    → (d : Reading) → decode s i ≡ d → runEnd (suc k) s i ≡ To e → length (codes (suc k) s i) ≡ suc k
-codes-length-step k s i e ih (NumberFault f) d a = no-walk _ f i e (run-bad (suc k) s i f (omega arith) d) a
-codes-length-step k s i e ih (Number x m) d a =
-    let j = run-more (suc k) s i x m (omega arith) d in
-    let h = codes-more (suc k) s i x m (omega arith) d in
-    rw (h, sub-one (suc k)) (ap suc (ih m (sym (rw (sub-one (suc k)) at j) ∙ a)))
+-- w numbers, and k behind them
+pub run-add : (w k : ℕ) (s : List ℕ) (i n : ℕ) → runEnd w s i ≡ To n → (runEnd (w + k) s i ≡ runEnd k s n) × (codes (w + k) s i ≡ codes w s i ++ codes k s n)
+unfolding runEnd codes
+run-add zero k s i n e = let q : i ≡ n = cc in (rw (zero-add, q), rw (zero-add, q))
+run-add (suc w) k s i n e =
+    let t = run-was w s i n e in
+    let a = run-add w k s (t .1) n (t .3) in
+    let m : suc w + k ≡ suc (w + k) = omega arith in
+    (rw (m, t .2) (a .0), rw (m, t .2) (ap (λ (l : List ℕ). t .0 ∷ l) (a .1)))
 
 -- so many codes as numbers were read
 pub codes-length : (k : ℕ) (s : List ℕ) (i e : ℕ) → runEnd k s i ≡ To e → length (codes k s i) ≡ k
-codes-length zero s i e a = rw (codes-none zero s i (omega arith))
-codes-length (suc k) s i e a = codes-length-step k s i e (λ m. codes-length k s m e) (decode s i) refl a
+unfolding codes
+codes-length zero s i e a = refl
+codes-length (suc k) s i e a = let t = run-was k s i e a in rw (t .2) (ap suc (codes-length k s (t .1) e (t .3)))
 
-rows-run-step : (k w : ℕ) (s : List ℕ) (b : Bool) (p i e : ℕ) → ((n : ℕ) → rowsFrom k w s false i n ≡ To e → runEnd (k * w) s n ≡ To e)
-    → (d : Walk) → runEnd w s i ≡ d → (t : Bool) → (b || below (codes w s p) (codes w s i)) ≡ t → rowsFrom (suc k) w s b p i ≡ To e → runEnd (suc k * w) s i ≡ To e
-rows-run-step k w s b p i e ih (Fault f q) d t y a = no-walk _ f q e (rows-bad (suc k) w s b p i f q (omega arith) d) a
-rows-run-step k w s b p i e ih (To n) d false y a = no-walk _ 7 i e (rows-fall (suc k) w s b p i n (omega arith) d y) a
-rows-run-step k w s b p i e ih (To n) d true y a =
-    let j = rows-more (suc k) w s b p i n (omega arith) d y in
-    let m : suc k * w ≡ w + k * w = suc-mul k w ∙ omega arith in
-    rw m (run-add w (k * w) s i n d ∙ ih n (sym (rw (sub-one (suc k)) at j) ∙ a))
+-- ---- rows that end well
 
-pub rows-run : (k w : ℕ) (s : List ℕ) (b : Bool) (p i e : ℕ) → rowsFrom k w s b p i ≡ To e → runEnd (k * w) s i ≡ To e
-rows-run zero w s b p i e a = rw (zero-mul w) (run-none zero s i (omega arith) ∙ sym (rows-none zero w s b p i (omega arith)) ∙ a)
-rows-run (suc k) w s b p i e a = rows-run-step k w s b p i e (λ n. rows-run k w s false i n e) (runEnd w s i) refl (b || below (codes w s p) (codes w s i)) refl a
+pub rows-was : (k w : ℕ) (s : List ℕ) (first : Bool) (p i e : ℕ) → rowsFrom (suc k) w s first p i ≡ To e
+    → (n : ℕ) × (runEnd w s i ≡ To n) × ((first || below (codes w s p) (codes w s i)) ≡ true) × (rowsFrom k w s false i n ≡ To e)
+unfolding rowsFrom
+rows-was k w s first p i e q = by-walk (runEnd w s i) (first || below (codes w s p) (codes w s i)) (λ n. rowsFrom k w s false i n) q
+  where
+    by-walk : (d : Walk) (b : Bool) (go : ℕ → Walk) → onWalk d (λ n. cond b (go n) (Fault 7 i)) ≡ To e → (n : ℕ) × (d ≡ To n) × (b ≡ true) × (go n ≡ To e)
+    by-walk (To n) true go q = (n, refl, refl, q)
+    by-walk (To n) false go q = no-walk (Fault 7 i) 7 i e refl q
+    by-walk (Fault f y) b go q = no-walk (Fault f y) f y e refl q
+
+pub row-cells : (k w : ℕ) → suc k * w ≡ w + k * w
+row-cells k w = suc-mul k w ∙ omega arith
+
+-- their numbers lie one after the other
+pub rows-run : (k w : ℕ) (s : List ℕ) (first : Bool) (p i e : ℕ) → rowsFrom k w s first p i ≡ To e → runEnd (k * w) s i ≡ To e
+unfolding runEnd rowsFrom
+rows-run zero w s first p i e q = rw zero-mul q
+rows-run (suc k) w s first p i e q =
+    let t = rows-was k w s first p i e q in
+    rw (row-cells k w) (run-add w (k * w) s i (t .0) (t .1) .0 ∙ rows-run k w s false i (t .0) e (t .3))

@@ -28,6 +28,7 @@ use Rattle.tables.proofs.CheckLaws.{inside, scheme-good, count-good, Clear, InR
 use Rattle.image.specs.declared.Walk.the-variants.{To}
 use Rattle.image.specs.declared.Field.the-variants.{Value}
 use Rattle.image.specs.declared.Entry.the-variants.{Table}
+use Rattle.image.proofs.ReadingLaws.{row-cells}
 use Rattle.image.specs.Reading.{runEnd, codes, rowsFrom}
 use Rattle.image.specs.Load.{version, firstTable, fieldAt, countAt, tableAt, tablesFrom, scanOf, tablesCodes}
 use Rattle.image.specs.Write.{encodes, cellsOf, tablesImage, imageOf, tooHigh, rowsFault, Accepted}
@@ -40,9 +41,6 @@ pub part-stands : (l : List ℕ) (at w : ℕ) (xs r : List ℕ) → length xs �
 part-stands l at w xs r n e = (rw e (take-at xs r w n), sym (drop-drop w at l) ∙ rw e (drop-at xs r w n))
 
 -- The cells of one row more.
-pub row-cells : (k w : ℕ) → suc k * w ≡ w + k * w
-row-cells k w = suc-mul k w ∙ omega arith
-
 -- One entry more in front.
 front-more : (t : ℕ) (l : List ℕ) → t < mostTables → length l ≡ mostTables → set (front t l) t (getD l t 0) ≡ front (t + 1) l
 unfolding front
