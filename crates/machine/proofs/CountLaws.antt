@@ -1,5 +1,5 @@
--- Any call on any stream that fits, its store damaged or not: how large its counts can be. Induction over the ways of a call. Assumes nothing.
-use Prim.Native.Nat.{ℕ, suc, _+_, _*_, _≤_, _<_}
+-- Any call on any stream, its store damaged or not: how large its counts can be. Induction over the ways of a call. Assumes nothing.
+use Prim.Native.Nat.{ℕ, zero, suc, _+_, _*_, _≤_, _<_}
 use native.Mathlib.Omega.{arith}
 use native.Mathlib.Nat.{suc-mul, mul-le-mul-right, mul-le-mul-left, le-trans}
 use mathlib.Core.Path.{_≡_, refl, ap}
@@ -9,8 +9,9 @@ use Rattle.tables.specs.declared.Catalogue.{Catalogue}
 use Rattle.tables.specs.Catalogues.{total}
 use Rattle.tables.specs.Checks.{Lawful}
 use Rattle.tables.proofs.CatalogueLaws.{rows-few}
-use Rattle.machine.specs.Machine.{State, deepest, finished, working, refused, Called, answer, piled, Fit, work}
+use Rattle.machine.specs.Machine.{State, deepest, finished, working, refused, Called, answer, piled, Fit, callFault, work, call}
 use Rattle.machine.proofs.WorkLaws.{handing, by-ways}
+use Rattle.machine.proofs.RefusalLaws.{call-clear, call-refused, call-works}
 use Rattle.machine.proofs.TrialLaws.{trial-fit}
 
 -- What is known of the counts of call s, made with budget b in state q.
@@ -20,8 +21,17 @@ pub record Few (cat : Catalogue) (b : ℕ) (q : State) (s : Called) : Type 0 whe
   pub tests : s .tests ≤ s .trials * (cat .n * total cat)
   pub looks : s .looks ≤ s .trials * (deepest cat + 1)
 
+-- No call comes near what a machine number holds: N is at most 2,040, a trial has at most 8 N row tests, and a search at most 65 looks.
+pub record Small (s : Called) : Type 0 where
+  pub trials : s .trials ≤ 2040
+  pub tests : s .tests ≤ 2040 * (8 * 2040)
+  pub looks : s .looks ≤ 2040 * 65
+
 few-none : (cat : Catalogue) (b : ℕ) (q : State) (s : Called) → q .next ≤ total cat → s .trials ≡ 0 → s .tests ≡ 0 → s .looks ≡ 0 → Few cat b q s
 few-none cat b q s h e f g = record { rows = omega arith; budget = omega arith; tests = omega arith; looks = omega arith }
+
+product : (a b x y : ℕ) → a ≤ x → b ≤ y → a * b ≤ x * y
+product a b x y h k = le-trans (mul-le-mul-right b h) (mul-le-mul-left x k)
 
 module _ (cat : Catalogue) (cells row : List ℕ) where
   pub few : (b : ℕ) (q : State) → Fit cat q → Few cat b q (work cat cells b q row)
@@ -49,22 +59,37 @@ module _ (cat : Catalogue) (cells row : List ℕ) where
 
   -- In a lawful catalogue they fit a machine number by far; so do the counts that a loop has piled up on its way.
   module _ (L : Lawful cat (length cells)) where
-    product : (a b x y : ℕ) → a ≤ x → b ≤ y → a * b ≤ x * y
-    product a b x y h k = le-trans (mul-le-mul-right b h) (mul-le-mul-left x k)
-
-    pub counts-small : (b : ℕ) (q : State) → Fit cat q → (a t l : ℕ) (s : Called) → work cat cells b q row ≡ piled a t l s
-        → (a ≤ 2040) × (t ≤ 2040 * (8 * 2040)) × (l ≤ 2040 * 65)
-    counts-small b q g a t l s e =
+    work-small : (b : ℕ) (q : State) → Fit cat q → Small (work cat cells b q row)
+    work-small b q g =
         let f = few b q g in
         let w = work cat cells b q row in
         let rows : total cat ≤ 2040 = rows-few cat (length cells) L (cat .n) (omega arith) in
         let n : w .trials ≤ 2040 = omega (arith, f .rows) in
         let each : cat .n * total cat ≤ 8 * 2040 = product (cat .n) (total cat) 8 2040 (L .tables) rows in
         let looks : deepest cat + 1 ≤ 65 = omega (arith, L .tables) in
-        let x : w .trials ≡ a + s .trials = ap (λ (c : Called). c .trials) e in
-        let y : w .tests ≡ t + s .tests = ap (λ (c : Called). c .tests) e in
-        let z : w .looks ≡ l + s .looks = ap (λ (c : Called). c .looks) e in (
-          omega arith,
-          omega (arith, f .tests, product (w .trials) (cat .n * total cat) 2040 (8 * 2040) n each),
-          omega (arith, f .looks, product (w .trials) (deepest cat + 1) 2040 65 n looks),
-        )
+        record {
+          trials = n;
+          tests = omega (arith, f .tests, product (w .trials) (cat .n * total cat) 2040 (8 * 2040) n each);
+          looks = omega (arith, f .looks, product (w .trials) (deepest cat + 1) 2040 65 n looks);
+        }
+
+    pub counts-small : (b : ℕ) (q : State) → Fit cat q → (a t l : ℕ) (s : Called) → work cat cells b q row ≡ piled a t l s
+        → (a ≤ 2040) × (t ≤ 2040 * (8 * 2040)) × (l ≤ 2040 * 65)
+    counts-small b q g a t l s e =
+        let w = work-small b q g in
+        let x : work cat cells b q row .trials ≡ a + s .trials = ap (λ (c : Called). c .trials) e in
+        let y : work cat cells b q row .tests ≡ t + s .tests = ap (λ (c : Called). c .tests) e in
+        let z : work cat cells b q row .looks ≡ l + s .looks = ap (λ (c : Called). c .looks) e in
+        (omega (arith, w .trials), omega (arith, w .tests), omega (arith, w .looks))
+
+  -- So do those of any call: of one that is refused before work they are 0, and behind the refusals the catalogue is lawful and the stream fits.
+  pub call-small : (b : ℕ) (q : State) → Small (call cat cells b q row)
+  call-small b q = by (callFault cat (length cells) q row) refl
+    where
+      by : (k : ℕ) → callFault cat (length cells) q row ≡ k → Small (call cat cells b q row)
+      by zero e =
+          let (L, g, h) = call-clear cat (length cells) q row e in
+          rw (call-works cat cells b q row e) (work-small L b q g)
+      by (suc k) e =
+          rw (call-refused cat cells b q row (suc k) e (λ z. absurd (omega arith)))
+          (record { trials = omega arith; tests = omega arith; looks = omega arith })

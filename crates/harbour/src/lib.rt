@@ -1,0 +1,71 @@
+// The public calls of the library: load and write an image, open a stream and move it on, and ask whether one padded row covers another.
+// None asks anything of its caller, and each promise stands here once: one outcome for every input, refusals too.
+ghost use mathlib.Core.Path.{_≡_};
+ghost use Rattle.padding.specs.Covering.{covering};
+ghost use Rattle.image.specs.Load.{Loads};
+ghost use Rattle.image.specs.Write.{Writes};
+ghost use Rattle.machine.specs.Machine.{call, opening};
+ghost use Rattle.stream.specs.Promises.{stateOf, calledOf, openedOf};
+pub use image::Loaded;
+pub use image::Verdict;
+pub use image::Written;
+pub use stream::Answer;
+pub use stream::OpenAnswer;
+pub use stream::StepAnswer;
+pub use stream::StreamRecord;
+pub use tables::Catalogue;
+
+// Loads an image: its catalogue, and its cells into the front of those lent.
+// The answer is the first fault in reading order, or none; a refused image leaves the cells as they were.
+pub fn load(image: &[u8], cells: &mut [u64]) -> Loaded
+    ensures { λ r. ⌜ Loads (now (image .entry)) (now (cells .entry)) r (now (cells .exit)) ⌝ }
+{
+    image::load(image, cells)
+}
+
+// Writes the image of the tables into the front of the lent bytes, and gives its length.
+// The answer is the first fault in image order, or the length; a refusal writes nothing.
+pub fn write(cat: Catalogue, cells: &[u64], out: &mut [u8]) -> Written
+    ensures { λ r. ⌜ Writes cat (now (cells .entry)) (now (out .entry)) r (now (out .exit)) ⌝ }
+{
+    image::write(cat, cells, out)
+}
+
+// Opens a stream on the tables, in the store that the three slices make.
+// All that it gives, and all that the slices then hold, is the paper's open.
+pub fn open(
+    cat: Catalogue,
+    cells: &[u64],
+    keys: &mut [u64],
+    left: &mut [u16],
+    right: &mut [u16],
+) -> OpenAnswer
+    ensures { λ r. ⌜ openedOf r (now (keys .exit)) (now (left .exit)) (now (right .exit)) ≡ opening cat (now (cells .entry)) (now (keys .entry)) (now (left .entry)) (now (right .entry)) ⌝ }
+{
+    stream::open(cat, cells, keys, left, right)
+}
+
+// One call of an open stream with a budget of trials; the record goes in by value and comes back moved on.
+// All that it gives, counts too, and all that the slices then hold, is the paper's stream call.
+pub fn step(
+    cat: Catalogue,
+    cells: &[u64],
+    keys: &mut [u64],
+    left: &mut [u16],
+    right: &mut [u16],
+    stream: StreamRecord,
+    budget: usize,
+    padded: &mut [u64],
+) -> StepAnswer
+    ensures { λ r. ⌜ calledOf r (now (keys .exit)) (now (left .exit)) (now (right .exit)) (now (padded .exit)) ≡ call cat (now (cells .entry)) budget (stateOf stream (now (keys .entry)) (now (left .entry)) (now (right .entry))) (now (padded .entry)) ⌝ }
+{
+    stream::step(cat, cells, keys, left, right, stream, budget, padded)
+}
+
+// Whether one padded row covers another: the same length, the same value wherever both have one, and at least as many values.
+// Rows of any length may be asked about, and any codes.
+pub fn covers(first: &[u64], second: &[u64]) -> bool
+    ensures { λ r. ⌜ r ≡ covering (now (first .entry)) (now (second .entry)) ⌝ }
+{
+    padding::covers(first, second)
+}
