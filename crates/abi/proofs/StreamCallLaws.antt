@@ -12,15 +12,12 @@ use borrow.Author.Tests.{ltb-false}
 use Rattle.laws.specs.Lists.{put}
 use Rattle.laws.proofs.TestLaws.{or-none}
 use Rattle.tables.specs.declared.Catalogue.{Catalogue}
-use Rattle.tables.specs.Catalogues as catalogues
 use Rattle.tables.specs.Catalogues.{total}
 use Rattle.tables.specs.Checks.{Lawful}
 use Rattle.tables.proofs.CatalogueLaws.{rows-few}
 use Rattle.disjunction.specs.Rule.{Grown, rows}
 use Rattle.disjunction.proofs.Extending.{extension-valid}
-use Rattle.keys.specs.Keys.{bitsPerRow, withRow}
-use Rattle.rows.specs.World.{worldOf, setOf}
-use Rattle.rows.specs.Named.{Named}
+use Rattle.rows.specs.World.{worldOf}
 use Rattle.rows.proofs.WorldLaws.{rows-total}
 use Rattle.rows.proofs.NamedLaws.{named-valid, named-size, place-there, row-small}
 use Rattle.store.specs.Store.{storeIn}

@@ -65,7 +65,7 @@ fn number_of(answer: Answer) -> u64
 fn open_short(catalogue: &[u64], words: &[u64]) -> bool
     ensures { λ r. ⌜ r ≡ openShort (now (catalogue .entry)) (now (words .entry)) ⌝ }
 {
-    if catalogue.len() < 18 {
+    if crate::too_few(catalogue.len()) {
         return true;
     }
     words.len() < 3

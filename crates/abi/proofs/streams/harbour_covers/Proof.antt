@@ -1,8 +1,5 @@
 -- `abi::streams::harbour_covers` meets its contract: the library's yes or no as a number. Assumes nothing.
-use native.Mathlib.Omega.{arith}
-use Prim.Native.Nat.{ℕ, _+_, _-_, _*_, _^_, _≤_, _<_}
-use mathlib.Core.Path.{_≡_, refl, sym, ap, _∙_}
-use lib.ListN.{length, getD}
+use mathlib.Core.Path.{refl}
 use borrow.Author.Needs.{needs}
 use Rattle.abi.proofs.streams.harbour_covers.Statement.{statement}
 use Rattle.abi.proofs.streams.harbour_covers.Tie as tie

@@ -1,8 +1,7 @@
 -- `abi::streams::harbour_open` meets its contract: each way is its law's, and row tests x 32 do not wrap. Assumes nothing.
 use native.Mathlib.Omega.{arith}
-use Prim.Native.Nat.{ℕ, _+_, _-_, _*_, _^_, _≤_, _<_}
-use mathlib.Core.Path.{_≡_, refl, sym, ap, _∙_}
-use lib.ListN.{length, getD}
+use Prim.Native.Nat.{_+_, _*_, _<_}
+use mathlib.Core.Path.{_≡_, refl, sym, _∙_}
 use borrow.Author.Needs.{needs}
 use mathlib.Core.Bool.{false}
 use denote.Ref.{now}

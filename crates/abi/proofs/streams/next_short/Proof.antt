@@ -1,8 +1,5 @@
 -- `abi::streams::next_short` meets its contract: its two tests are the definition's. Assumes nothing.
-use native.Mathlib.Omega.{arith}
-use Prim.Native.Nat.{ℕ, _+_, _-_, _*_, _^_, _≤_, _<_}
-use mathlib.Core.Path.{_≡_, refl, sym, ap, _∙_}
-use lib.ListN.{length, getD}
+use mathlib.Core.Path.{refl}
 use borrow.Author.Needs.{needs}
 use Rattle.abi.specs.Streams.{nextShort}
 use Rattle.abi.proofs.streams.next_short.Statement.{statement}

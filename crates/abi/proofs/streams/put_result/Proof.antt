@@ -1,8 +1,5 @@
 -- `abi::streams::put_result` meets its contract: four words, put one by one. Assumes nothing.
 use native.Mathlib.Omega.{arith}
-use Prim.Native.Nat.{ℕ, _+_, _-_, _*_, _^_, _≤_, _<_}
-use mathlib.Core.Path.{_≡_, refl, sym, ap, _∙_}
-use lib.ListN.{length, getD}
 use borrow.Author.Needs.{needs}
 use lib.ListN.{length-set}
 use Rattle.abi.proofs.StreamCallLaws.{put-four}
