@@ -120,7 +120,7 @@ def images(peer, count):
 
 def main():
     program, peer = sys.argv[1:3]
-    count = int(sys.argv[3]) if len(sys.argv) > 3 else 1000
+    count = int(sys.argv[3]) if len(sys.argv) > 3 else 3000
     passed = failed = 0
     cases = [(name, data, text) for name, (data, text) in CASES.items()]
     for name, data, text in [*cases, *images(peer, count)]:
