@@ -1,5 +1,5 @@
 /*
- * Harbour table images: the C door.
+ * Harbour table images: the C door, and the calls on images and streams.
  *
  * An image holds up to eight tables in one run of bytes. The door tells whether
  * an image is good, and if not, why and where.
@@ -14,6 +14,7 @@
  *     }
  *
  * Link with the static library of the door: cc program.c libdoor.a
+ * The calls below the door lie in another: cc program.c libabi.a libdoor.a
  */
 #ifndef HARBOUR_H
 #define HARBOUR_H
@@ -46,6 +47,84 @@ extern "C" {
  *   9  bytes follow the last table
  */
 uint64_t harbour_check(const uint8_t *image, size_t length);
+
+/*
+ * The calls below work in memory that the caller lends, and keep nothing. Each
+ * length counts elements; with length 0 a pointer is not followed and may be NULL.
+ * No slice that a call writes may overlap another slice of that call.
+ *
+ * A catalogue is 18 words: the number of attributes, the number of tables, eight
+ * schemes, eight row counts. A stream record is 3 words: records found, records
+ * handed out, next row. A result is 4 words: key, trials, row tests, looks. Words
+ * behind these stay. Where fewer are lent, the answer is 31 and nothing changes.
+ *
+ * The store is three arrays, keys, left and right; it has as many records as the
+ * shortest of them has elements. The caller keeps the store and the stream record
+ * from open on, and changes neither between calls.
+ *
+ * Further refusals:
+ *   10  a code has no place in an image
+ *   11  the lent bytes or the lent padded row are too short
+ *   12  the store is full
+ *   13  the stream record does not fit the tables and the store
+ *   14  the store is damaged
+ */
+
+/*
+ * Loads an image: its codes into the cells, its catalogue into the words. The
+ * answer is as of harbour_check, with room for as many cells as are lent. A refused
+ * image leaves the cells as they were and gives a catalogue of zeros.
+ */
+uint64_t harbour_load(const uint8_t *image, size_t image_length,
+                      uint64_t *cells, size_t cells_length,
+                      uint64_t *catalogue, size_t catalogue_length);
+
+/*
+ * Writes the image of tables. The answer is its length * 32, or the refusal, and
+ * then no byte is written.
+ */
+uint64_t harbour_write(const uint64_t *catalogue, size_t catalogue_length,
+                       const uint64_t *cells, size_t cells_length,
+                       uint8_t *out, size_t out_length);
+
+/*
+ * Opens a stream of the row sets of tables. The answer is row tests * 32 + refusal.
+ * Refused, it gives a record of zeros and leaves the store as it was.
+ */
+uint64_t harbour_open(const uint64_t *catalogue, size_t catalogue_length,
+                      const uint64_t *cells, size_t cells_length,
+                      uint64_t *keys, size_t keys_length,
+                      uint16_t *left, size_t left_length,
+                      uint16_t *right, size_t right_length,
+                      uint64_t *record, size_t record_length);
+
+/*
+ * Asks an open stream for its next set, in at most `budget` trials. The answer is
+ *
+ *   32   a set: its key is in the result, its row in the first cells of padded
+ *   64   finished: there are no more sets
+ *   96   working: the budget is spent; call again
+ *
+ * or a refusal. The record is moved on. With another answer than 32 the key is 0
+ * and padded stays.
+ */
+uint64_t harbour_next(const uint64_t *catalogue, size_t catalogue_length,
+                      const uint64_t *cells, size_t cells_length,
+                      uint64_t *keys, size_t keys_length,
+                      uint16_t *left, size_t left_length,
+                      uint16_t *right, size_t right_length,
+                      uint64_t *record, size_t record_length,
+                      uint64_t budget,
+                      uint64_t *padded, size_t padded_length,
+                      uint64_t *result, size_t result_length);
+
+/*
+ * Tells whether the first padded row covers the second: 1 for yes, 0 for no. It
+ * does when they have the same length, agree wherever both have a value, and the
+ * first has at least as many values. A code of 0 is no value.
+ */
+uint64_t harbour_covers(const uint64_t *first, size_t first_length,
+                        const uint64_t *second, size_t second_length);
 
 #ifdef __cplusplus
 }
