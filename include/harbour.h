@@ -59,11 +59,12 @@ uint64_t harbour_check(const uint8_t *image, size_t length);
  * behind these stay. Where fewer are lent, the answer is 31 and nothing changes.
  *
  * The store is three arrays, keys, left and right; it has as many records as the
- * shortest of them has elements. The caller keeps the store and the stream record
- * from open on, and changes neither between calls.
+ * shortest of them has elements, and at most 65,535. The caller keeps the store and
+ * the stream record from open on, and changes neither between calls.
  *
  * Further refusals:
- *   10  a code has no place in an image
+ *   8   also: the cells so far pass the cells that are lent
+ *   10  a code is 2^63 or more
  *   11  the lent bytes or the lent padded row are too short
  *   12  the store is full
  *   13  the stream record does not fit the tables and the store
@@ -72,8 +73,9 @@ uint64_t harbour_check(const uint8_t *image, size_t length);
 
 /*
  * Loads an image: its codes into the cells, its catalogue into the words. The
- * answer is as of harbour_check, with room for as many cells as are lent. A refused
- * image leaves the cells as they were and gives a catalogue of zeros.
+ * answer is as of harbour_check, with room for 8,192 cells or as many as are lent,
+ * whichever is less. A refused image leaves the cells as they were and gives a
+ * catalogue of zeros.
  */
 uint64_t harbour_load(const uint8_t *image, size_t image_length,
                       uint64_t *cells, size_t cells_length,
