@@ -9,7 +9,7 @@ use Rattle.image.specs.declared.Loaded.{Loaded}
 use Rattle.image.specs.declared.Written.{Written}
 use Rattle.image.specs.Load.{firstTable, tablesCodes, cellsAfter, Loads}
 use Rattle.image.specs.Write.{Writes}
-use Rattle.door.specs.Door.{doorNumber}
+use Rattle.verdicts.specs.Number.{doorNumber}
 use Rattle.abi.specs.Words.{wordsOf, catalogueIn}
 use Rattle.abi.specs.Calls.{tooFewWords, short, LoadCall, writtenNumber, WriteCall}
 

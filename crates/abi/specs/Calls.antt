@@ -11,7 +11,7 @@ use Rattle.image.specs.declared.Written.{Written}
 use Rattle.image.specs.declared.Written.the-variants.{Length, Refused}
 use Rattle.image.specs.Load.{firstTable, scanOf, tablesCodes, cellsAfter}
 use Rattle.image.specs.Write.{imageOf, written, bytesAfter}
-use Rattle.door.specs.Door.{doorNumber}
+use Rattle.verdicts.specs.Number.{doorNumber}
 use Rattle.abi.specs.Words.{catalogueWords, wordsOf, catalogueIn}
 
 -- No refusal of document 01 has this number.

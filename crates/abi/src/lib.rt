@@ -98,7 +98,7 @@ pub extern "C" fn harbour_load(image: &[u8], cells: &mut [u64], catalogue: &mut 
     let verdict = r.verdict;
     let cat = r.catalogue;
     put_catalogue(cat, catalogue);
-    door::number_of(verdict)
+    verdicts::number_of(verdict)
 }
 
 // Writes the image of tables into the lent bytes.

@@ -8,7 +8,8 @@ use Rattle.image.specs.declared.Verdict.{Verdict}
 use Rattle.image.specs.declared.Verdict.the-variants.{Good, Refused}
 use Rattle.image.specs.Load.{farthest, NearVerdict, scanOf}
 use Rattle.image.proofs.PlaceLaws.{scan-near}
-use Rattle.door.specs.Door.{doorNumber, checkOf}
+use Rattle.verdicts.specs.Number.{doorNumber}
+use Rattle.door.specs.Door.{checkOf}
 
 -- A refusal and its place, read off the number.
 pub door-tells : (s : List ℕ) (k p : ℕ) → scanOf s mostCells .verdict ≡ Refused k p → (checkOf s % 32 ≡ k) × (checkOf s / 32 ≡ p)

@@ -1,15 +1,10 @@
 -- "The C door takes one image as a byte slice, assumes 8,192 cells of room, and gives one number: place x 32 + refusal, and 0 for good."
 -- Assumes nothing.
-use Prim.Native.Nat.{ℕ, _+_, _*_}
+use Prim.Native.Nat.{ℕ}
 use mathlib.Core.List.{List}
 use Rattle.tables.specs.Sizes.{mostCells}
-use Rattle.image.specs.declared.Verdict.{Verdict}
-use Rattle.image.specs.declared.Verdict.the-variants.{Good, Refused}
 use Rattle.image.specs.Load.{scanOf}
-
-abbrev pub doorNumber : Verdict → ℕ
-doorNumber Good = 0
-doorNumber (Refused k p) = p * 32 + k
+use Rattle.verdicts.specs.Number.{doorNumber}
 
 -- The door's answer to the bytes of an image.
 unfoldable pub checkOf : List ℕ → ℕ

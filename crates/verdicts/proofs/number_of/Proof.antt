@@ -1,4 +1,4 @@
--- `door::number_of` meets its contract: the bound on places keeps the product and the sum small. Assumes nothing.
+-- `verdicts::number_of` meets its contract: the bound on places keeps the product and the sum small. Assumes nothing.
 use native.Mathlib.Omega.{arith}
 use Prim.Native.Nat.{ℕ, _+_, _-_, _*_, _^_, _≤_, _<_}
 use mathlib.Core.Path.{_≡_, refl, sym, ap, _∙_}
@@ -6,8 +6,8 @@ use lib.ListN.{length, getD}
 use borrow.Author.Needs.{needs}
 use Rattle.image.specs.declared.Verdict.the-variants.{Refused}
 use Rattle.image.specs.Load.{farthest, NearVerdict}
-use Rattle.door.proofs.number_of.Statement.{statement}
-use Rattle.door.proofs.number_of.Tie as tie
+use Rattle.verdicts.proofs.number_of.Statement.{statement}
+use Rattle.verdicts.proofs.number_of.Tie as tie
 
 -- The refusal is near the start.
 near : (c : tie.After-known-told) → NearVerdict farthest (Refused (c .before .verdict .given .0 .0) (c .before .verdict .given .0 .1 .0))

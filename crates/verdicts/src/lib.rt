@@ -1,0 +1,17 @@
+// A verdict of the loader as one number, for the calls that C makes.
+ghost use mathlib.Core.Path.{_≡_};
+ghost use Rattle.image.specs.Load.{farthest, NearVerdict};
+ghost use Rattle.verdicts.specs.Number.{doorNumber};
+use image::Verdict;
+
+// The door's number for a verdict of the loader: 0 for good, else place x 32 + refusal.
+// No place of a refusal lies far from the image's start, so the number fits.
+pub fn number_of(verdict: Verdict) -> u64
+    requires { ⌜ NearVerdict farthest verdict ⌝ }
+    ensures { λ r. ⌜ r ≡ doorNumber verdict ⌝ }
+{
+    match verdict {
+        Verdict::Good => 0,
+        Verdict::Refused(k, p) => (p as u64) * 32 + (k as u64),
+    }
+}
