@@ -11,6 +11,8 @@ use Rattle.stream.specs.declared.Answer.the-variants.{Set, Finished, Working, R
 use Rattle.stream.specs.declared.OpenAnswer.{OpenAnswer}
 use Rattle.stream.specs.declared.StepAnswer.{StepAnswer}
 use Rattle.stream.specs.Promises.{stateOf, saysOf, calledOf, openedOf}
+use Rattle.harbour.specs.declared.NextAnswer.{NextAnswer}
+use Rattle.harbour.specs.Answers.{withRecord}
 use Rattle.image.specs.declared.Loaded.{Loaded}
 use Rattle.image.specs.declared.Written.{Written}
 use Rattle.image.specs.Load.{firstTable, tablesCodes, cellsAfter, Loads}
@@ -104,6 +106,15 @@ steps-one r r′ ks ls rs w ks′ ls′ rs′ w′ e =
         ∙ ap (λ (x : ℕ). made (r′ .answer) (r′ .key) (r′ .trials) (r′ .tests) x (r .stream)) l
         ∙ ap (made (r′ .answer) (r′ .key) (r′ .trials) (r′ .tests) (r′ .looks)) s
 
+-- The thin call's answer and its record are read off the by-value answer that the two make up.
+nexts-one : (r r′ : NextAnswer) (q q′ : StreamRecord) (ks ls rs w ks′ ls′ rs′ w′ : List ℕ) → calledOf (withRecord r q) ks ls rs w ≡ calledOf (withRecord r′ q′) ks′ ls′ rs′ w′
+    → (r ≡ r′) × (q ≡ q′) × (ks ≡ ks′) × (ls ≡ ls′) × (rs ≡ rs′) × (w ≡ w′)
+nexts-one r r′ q q′ ks ls rs w ks′ ls′ rs′ w′ e =
+    let t = steps-one (withRecord r q) (withRecord r′ q′) ks ls rs w ks′ ls′ rs′ w′ e in (ap answer (t .0), ap (λ (x : StepAnswer). x .stream) (t .0), t .1, t .2, t .3, t .4)
+  where
+    answer : StepAnswer → NextAnswer
+    answer x = record { answer = x .answer; key = x .key; trials = x .trials; tests = x .tests; looks = x .looks }
+
 pub determined : OneOutcome
 determined =
     record {
@@ -111,6 +122,7 @@ determined =
       write = writes-one;
       «open» = λ cat cells keys left right r r′ ks ls rs ks′ ls′ rs′ e e′. opens-one r r′ ks ls rs ks′ ls′ rs′ (e ∙ sym e′);
       step = λ cat cells s keys left right row b r r′ ks ls rs w ks′ ls′ rs′ w′ e e′. steps-one r r′ ks ls rs w ks′ ls′ rs′ w′ (e ∙ sym e′);
+      next = λ cat cells s keys left right row b r r′ q q′ ks ls rs w ks′ ls′ rs′ w′ e e′. nexts-one r r′ q q′ ks ls rs w ks′ ls′ rs′ w′ (e ∙ sym e′);
       covers = λ first second r r′ e e′. e ∙ sym e′;
       check = λ s r r′ e e′. e ∙ sym e′;
     }

@@ -1,5 +1,5 @@
--- "Show that no input admits two outcomes": for each public call, whatever meets its promise twice has met it with the same answer, the same counts and
--- the same words in every lent slice. Proved in proofs/Determined. Assumes nothing.
+-- "Show that no input admits two outcomes": for each public call, whatever meets its promise twice has met it with the same answer, the same counts,
+-- the same record and the same words in every lent slice. Proved in proofs/Determined. Assumes nothing.
 use Prim.Native.Nat.{ℕ}
 use mathlib.Core.Path.{_≡_}
 use mathlib.Core.Bool.{Bool}
@@ -16,6 +16,8 @@ use Rattle.stream.specs.declared.StreamRecord.{StreamRecord}
 use Rattle.stream.specs.declared.OpenAnswer.{OpenAnswer}
 use Rattle.stream.specs.declared.StepAnswer.{StepAnswer}
 use Rattle.stream.specs.Promises.{stateOf, calledOf, openedOf}
+use Rattle.harbour.specs.declared.NextAnswer.{NextAnswer}
+use Rattle.harbour.specs.Answers.{withRecord}
 
 pub record OneOutcome : Type 0 where
   pub load : (s lent : List ℕ) (r r′ : Loaded) (after after′ : List ℕ) → Loads s lent r after → Loads s lent r′ after′ → (r ≡ r′) × (after ≡ after′)
@@ -28,5 +30,10 @@ pub record OneOutcome : Type 0 where
       (r r′ : StepAnswer) (ks ls rs w ks′ ls′ rs′ w′ : List ℕ)
       → calledOf r ks ls rs w ≡ call cat cells b (stateOf s keys left right) row → calledOf r′ ks′ ls′ rs′ w′ ≡ call cat cells b (stateOf s keys left right) row
       → (r ≡ r′) × (ks ≡ ks′) × (ls ≡ ls′) × (rs ≡ rs′) × (w ≡ w′)
+  pub next : (cat : Catalogue) (cells : List ℕ) (s : StreamRecord) (keys left right row : List ℕ) (b : ℕ)
+      (r r′ : NextAnswer) (q q′ : StreamRecord) (ks ls rs w ks′ ls′ rs′ w′ : List ℕ)
+      → calledOf (withRecord r q) ks ls rs w ≡ call cat cells b (stateOf s keys left right) row
+      → calledOf (withRecord r′ q′) ks′ ls′ rs′ w′ ≡ call cat cells b (stateOf s keys left right) row
+      → (r ≡ r′) × (q ≡ q′) × (ks ≡ ks′) × (ls ≡ ls′) × (rs ≡ rs′) × (w ≡ w′)
   pub covers : (first second : List ℕ) (r r′ : Bool) → r ≡ covering first second → r′ ≡ covering first second → r ≡ r′
   pub check : (s : List ℕ) (r r′ : ℕ) → r ≡ checkOf s → r′ ≡ checkOf s → r ≡ r′

@@ -6,6 +6,7 @@ ghost use Rattle.image.specs.Load.{Loads};
 ghost use Rattle.image.specs.Write.{Writes};
 ghost use Rattle.machine.specs.Machine.{call, opening};
 ghost use Rattle.stream.specs.Promises.{stateOf, calledOf, openedOf};
+ghost use Rattle.harbour.specs.Answers.{withRecord};
 pub use image::Loaded;
 pub use image::Verdict;
 pub use image::Written;
@@ -14,6 +15,16 @@ pub use stream::OpenAnswer;
 pub use stream::StepAnswer;
 pub use stream::StreamRecord;
 pub use tables::Catalogue;
+
+// What the thin call answers: the answer, the key of a set (else 0), its trials, row tests and looks.
+// The record is not in it: the call has moved it on where it lies.
+pub struct NextAnswer {
+    pub answer: Answer,
+    pub key: u64,
+    pub trials: usize,
+    pub tests: usize,
+    pub looks: usize,
+}
 
 // Loads an image: its catalogue, and its cells into the front of those lent.
 // The answer is the first fault in reading order, or none; a refused image leaves the cells as they were.
@@ -45,6 +56,32 @@ pub fn open(
     stream::open(cat, cells, keys, left, right)
 }
 
+// One call of an open stream with a budget of trials: the thin call, which takes the record by `&mut` and moves it on in place.
+// All that it gives, counts too, the record that it leaves, and all that the slices then hold, is the paper's stream call.
+pub fn next(
+    cat: Catalogue,
+    cells: &[u64],
+    keys: &mut [u64],
+    left: &mut [u16],
+    right: &mut [u16],
+    stream: &mut StreamRecord,
+    budget: usize,
+    padded: &mut [u64],
+) -> NextAnswer
+    ensures { λ r. ⌜ calledOf (withRecord r (now (stream .exit))) (now (keys .exit)) (now (left .exit)) (now (right .exit)) (now (padded .exit)) ≡ call cat (now (cells .entry)) budget (stateOf (now (stream .entry)) (now (keys .entry)) (now (left .entry)) (now (right .entry))) (now (padded .entry)) ⌝ }
+{
+    let before = *stream;
+    let m = stream::step(cat, cells, keys, left, right, before, budget, padded);
+    *stream = m.stream;
+    NextAnswer {
+        answer: m.answer,
+        key: m.key,
+        trials: m.trials,
+        tests: m.tests,
+        looks: m.looks,
+    }
+}
+
 // One call of an open stream with a budget of trials; the record goes in by value and comes back moved on.
 // All that it gives, counts too, and all that the slices then hold, is the paper's stream call.
 pub fn step(
@@ -59,7 +96,16 @@ pub fn step(
 ) -> StepAnswer
     ensures { λ r. ⌜ calledOf r (now (keys .exit)) (now (left .exit)) (now (right .exit)) (now (padded .exit)) ≡ call cat (now (cells .entry)) budget (stateOf stream (now (keys .entry)) (now (left .entry)) (now (right .entry))) (now (padded .entry)) ⌝ }
 {
-    stream::step(cat, cells, keys, left, right, stream, budget, padded)
+    let mut s = stream;
+    let h = next(cat, cells, keys, left, right, &mut s, budget, padded);
+    StepAnswer {
+        answer: h.answer,
+        key: h.key,
+        trials: h.trials,
+        tests: h.tests,
+        looks: h.looks,
+        stream: s,
+    }
 }
 
 // Whether one padded row covers another: the same length, the same value wherever both have one, and at least as many values.
