@@ -11,3 +11,6 @@ pub mod Longers
 pub mod Frauds
 pub mod Edged
 pub mod Determined
+pub mod NumberExactly
+pub mod LoadSays
+pub mod LoadExactly

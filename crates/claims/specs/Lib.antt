@@ -1,3 +1,4 @@
 pub mod Demands
 pub mod Edges
 pub mod Outcomes
+pub mod LoadRefusals

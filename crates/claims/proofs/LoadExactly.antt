@@ -1,0 +1,198 @@
+-- Demand 1 of the loader and of the C door: each refusal exactly when. Whatever is due is at fault or leads to what is due next, and there is less to
+-- come each time (cells, rows, tables): so every reading meets a fault or comes to the end, and LoadSays has what a load says then. Assumes nothing.
+use Prim.Native.Nat.{ℕ, zero, suc, _+_, _*_, _^_, _≤_, _<_}
+use native.Mathlib.Decide.{decLt, ℕ-discrete}
+use native.Mathlib.Omega.{arith}
+use mathlib.Core.Path.{_≡_, refl, _∙_}
+use mathlib.Core.Logic.{_⊎_, inl, inr}
+use mathlib.Core.Bool.{Bool, true, false}
+use mathlib.Core.List.{List}
+use lib.ListN.{length}
+use lib.Count.{ones}
+use Rattle.numbers.specs.declared.Reading.{Reading}
+use Rattle.numbers.specs.declared.Reading.the-variants.{Number, NumberFault}
+use Rattle.numbers.specs.Numbers.{decode}
+use Rattle.tables.specs.Sizes.{mostAttributes, mostTables, mostRows, mostCells}
+use Rattle.tables.specs.Rows.{below}
+use Rattle.image.specs.declared.Verdict.{Verdict}
+use Rattle.image.specs.declared.Verdict.the-variants.{Good, Refused}
+use Rattle.image.specs.Reading.{codes}
+use Rattle.image.specs.Load.{version, scanOf}
+use Rattle.verdicts.specs.Number.{doorNumber}
+use Rattle.door.specs.Door.{checkOf}
+use Rattle.door.proofs.DoorLaws.{door-tells}
+use Rattle.claims.specs.LoadRefusals.{Before, none, rowAt, Due, theVersion, attributes, tables, table, rowCount, rows, cells, NumberDue, version-is, m-is, n-is, scheme-is, count-is, row-begins, cell-is, row-rises, rows-end, Meets, number, other-version, m-out, n-out, bad-scheme, many-rows, many-cells, not-rising, surplus, Reaches, start, on, FirstFault, ReadWhole, LoadExact, CheckExact}
+use Rattle.claims.proofs.NumberExactly.{number-exact}
+use Rattle.claims.proofs.LoadSays.{fault-refused, whole-good}
+
+module _ (s : List ℕ) (room : ℕ) where
+  -- ---- every reading ends
+
+  abbrev Ended : Type 0
+  Ended = ((k : ℕ) × (p : ℕ) × FirstFault s room k p) ⊎ ReadWhole s room
+
+  met : {d : Due} {i k p : ℕ} → Reaches s room d i → Meets s room d i k p → Ended
+  met {d} {i} {k} {p} r h = inl (k, p, (d, i, r, h))
+
+  -- Where a number is due, its own fault ends the reading; else its meaning decides.
+  read : (d : Due) (i : ℕ) → NumberDue d → Reaches s room d i → ((x j : ℕ) → decode s i ≡ Number x j → Ended) → Ended
+  read d i n r go = by (decode s i) refl
+    where
+      by : (o : Reading) → decode s i ≡ o → Ended
+      by (Number x j) e = go x j e
+      by (NumberFault f) e = met r (number n e)
+
+  module _ (m k u x : ℕ) where
+    through-cells : (c : ℕ) (b : Before) (p w : ℕ) → ((j : ℕ) → Reaches s room (cells m k u x c b p 0) j → Ended)
+        → (i : ℕ) → Reaches s room (cells m k u x c b p w) i → Ended
+    through-cells c b p zero go i r = go i r
+    through-cells c b p (suc w) go i r =
+        read (cells m k u x c b p (suc w)) i tt r (λ v j e. through-cells c b p w go j (on r (cell-is e)))
+
+    row-end : (c : ℕ) (b : Before) (p : ℕ) → ((j : ℕ) → Reaches s room (rows m k u x c (rowAt p)) j → Ended)
+        → (i : ℕ) → Reaches s room (cells m k u x c b p 0) i → Ended
+    row-end c none p go i r = go i (on r (row-rises tt))
+    row-end c (rowAt q) p go i r = by (below (codes (ones x) s q) (codes (ones x) s p)) refl
+      where
+        by : (t : Bool) → below (codes (ones x) s q) (codes (ones x) s p) ≡ t → Ended
+        by true h = go i (on r (row-rises h))
+        by false h = met r (not-rising h)
+
+    through-rows : (c : ℕ) (b : Before) → ((j : ℕ) → Reaches s room (table m k u) j → Ended) → (i : ℕ) → Reaches s room (rows m k u x c b) i → Ended
+    through-rows zero b go i r = go i (on r rows-end)
+    through-rows (suc c) b go i r =
+        through-cells c b i (ones x) (row-end c b i (through-rows c (rowAt i) go)) i (on r row-begins)
+
+  through-count : (m k u x c i j : ℕ) → decode s i ≡ Number c j → ((v q : ℕ) → Reaches s room (table m k v) q → Ended)
+      → Reaches s room (rowCount m k u x) i → Ended
+  through-count m k u x c i j e go r =
+      elim (decLt mostRows c) [
+        | yes h ↦ met r (many-rows e h)
+        | no h ↦ elim (decLt mostCells (u + c * ones x)) [
+          | yes a ↦ met r (many-cells e (omega arith) (inl a))
+          | no a ↦ elim (decLt room (u + c * ones x)) [
+            | yes b ↦ met r (many-cells e (omega arith) (inr b))
+            | no b ↦
+                through-rows m k (u + c * ones x) x c none (go (u + c * ones x)) j (on r (count-is e (omega arith) (omega arith) (omega arith)))
+          ]
+        ]
+      ]
+
+  through-scheme : (m k u x i j : ℕ) → decode s i ≡ Number x j → ((v q : ℕ) → Reaches s room (table m k v) q → Ended)
+      → Reaches s room (table m (suc k) u) i → Ended
+  through-scheme m k u x i j e go r =
+      elim (decLt 0 x) [
+        | no h ↦ met r (bad-scheme e (inl (omega arith)))
+        | yes h ↦ elim (decLt x (2 ^ m)) [
+          | no l ↦ met r (bad-scheme e (inr (omega arith)))
+          | yes l ↦
+              let q = on r (scheme-is e h l) in
+              read (rowCount m k u x) j tt q (λ c n f. through-count m k u x c j n f go q)
+        ]
+      ]
+
+  through-tables : (m k u i : ℕ) → Reaches s room (table m k u) i → Ended
+  through-tables m zero u i r =
+      elim (decLt i (length s)) [
+        | yes h ↦ met r (surplus h)
+        | no h ↦ inr (m, u, i, r, omega arith)
+      ]
+  through-tables m (suc k) u i r =
+      read (table m (suc k) u) i tt r (λ x j e. through-scheme m k u x i j e (through-tables m k) r)
+
+  -- A number out of its range, or in it.
+  ranged : (low high x : ℕ) → ((x < low) ⊎ (high < x) → Ended) → (low ≤ x → x ≤ high → Ended) → Ended
+  ranged low high x out in-range =
+      elim (decLt x low) [
+        | yes h ↦ out (inl h)
+        | no h ↦ elim (decLt high x) [
+          | yes l ↦ out (inr l)
+          | no l ↦ in-range (omega arith) (omega arith)
+        ]
+      ]
+
+  through-size : (m i : ℕ) → Reaches s room (tables m) i → Ended
+  through-size m i r =
+      read (tables m) i tt r (λ n j e. ranged 1 mostTables n (λ h. met r (n-out e h)) (λ l h. through-tables m n 0 j (on r (n-is e l h))))
+
+  through-head : (i : ℕ) → Reaches s room attributes i → Ended
+  through-head i r =
+      read attributes i tt r (λ m j e. ranged 1 mostAttributes m (λ h. met r (m-out e h)) (λ l h. through-size m j (on r (m-is e l h))))
+
+  ended : Ended
+  ended = read theVersion 0 tt start (λ v j e. by v j e (ℕ-discrete v version))
+    where
+      by : (v j : ℕ) → decode s 0 ≡ Number v j → Dec (v ≡ version) → Ended
+      by v j e (no h) = met start (other-version e h)
+      by v j e (yes h) = through-head j (on start (version-is (rw h at e)))
+
+  -- ---- so each refusal is given exactly when
+
+  one-refusal : (o : Verdict) (k p l q : ℕ) → o ≡ Refused k p → o ≡ Refused l q → (l ≡ k) × (q ≡ p)
+  one-refusal o k p l q a b = (cc, cc)
+
+  not-both : {A : Type 0} (o : Verdict) (k p : ℕ) → o ≡ Refused k p → o ≡ Good → A
+  not-both o k p a b = absurd (let z : _≡_ {A = ℕ} 0 1 = cc in omega arith)
+
+  refused-fault : (k p : ℕ) → scanOf s room .verdict ≡ Refused k p → Ended → FirstFault s room k p
+  refused-fault k p e (inr w) = not-both (scanOf s room .verdict) k p e (whole-good s room w)
+  refused-fault k p e (inl (l, q, f)) =
+      let (a, b) = one-refusal (scanOf s room .verdict) k p l q e (fault-refused s room l q f) in
+      rw (← a, ← b) f
+
+  good-whole : scanOf s room .verdict ≡ Good → Ended → ReadWhole s room
+  good-whole e (inr w) = w
+  good-whole e (inl (l, q, f)) = not-both (scanOf s room .verdict) l q (fault-refused s room l q f) e
+
+  pub load-exact : LoadExact s room
+  load-exact =
+      record {
+        refuses = λ k p. (λ e. refused-fault k p e ended, fault-refused s room k p);
+        accepts = (λ e. good-whole e ended, whole-good s room);
+      }
+
+-- ---- the C door
+
+-- No refusal is 0, which the door keeps for good.
+some-refusal : (s : List ℕ) (room : ℕ) {d : Due} {i k p : ℕ} → Meets s room d i k p → 0 < k
+some-refusal s room (number {i = i} {f = f} n e) = by (number-exact s i .no-other f e)
+  where
+    by : (f ≡ 1) ⊎ (f ≡ 2) → 0 < f
+    by (inl h) = omega arith
+    by (inr h) = omega arith
+some-refusal s room (other-version e h) = omega arith
+some-refusal s room (m-out e h) = omega arith
+some-refusal s room (n-out e h) = omega arith
+some-refusal s room (bad-scheme e h) = omega arith
+some-refusal s room (many-rows e h) = omega arith
+some-refusal s room (many-cells e h a) = omega arith
+some-refusal s room (not-rising h) = omega arith
+some-refusal s room (surplus h) = omega arith
+
+module _ (s : List ℕ) where
+  says-door : (v : Verdict) → scanOf s mostCells .verdict ≡ v → checkOf s ≡ doorNumber v
+  unfolding checkOf
+  says-door v e = rw e
+
+  door-refused : (k p : ℕ) → k < 32 → 0 < k → checkOf s ≡ p * 32 + k → (v : Verdict) → scanOf s mostCells .verdict ≡ v → v ≡ Refused k p
+  door-refused k p l z c Good e = absurd (omega (arith, says-door Good e))
+  door-refused k p l z c (Refused f q) e =
+      let t = door-tells s f q e in
+      let (b, d) : (f ≡ k) × (q ≡ p) = (omega arith, omega arith) in
+      rw (b, d)
+
+  door-good : checkOf s ≡ 0 → (v : Verdict) → scanOf s mostCells .verdict ≡ v → v ≡ Good
+  door-good c Good e = refl
+  door-good c (Refused f q) e =
+      let (d, i, r, h) = load-exact s mostCells .refuses f q .0 e in
+      absurd (omega (arith, some-refusal s mostCells h, says-door (Refused f q) e))
+
+  pub check-exact : CheckExact s
+  check-exact =
+      record {
+        refuses = λ k p l z. (
+          λ c. load-exact s mostCells .refuses k p .0 (door-refused k p l z c (scanOf s mostCells .verdict) refl),
+          λ f. says-door (Refused k p) (fault-refused s mostCells k p f),
+        );
+        accepts = (λ c. load-exact s mostCells .accepts .0 (door-good c (scanOf s mostCells .verdict) refl), λ w. says-door Good (whole-good s mostCells w));
+      }

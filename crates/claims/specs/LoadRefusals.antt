@@ -1,0 +1,136 @@
+-- Demand 1 of the loader, and of the C door: each refusal "given exactly when its condition holds and no earlier one does". A reading of an image comes
+-- from one thing due to the next (`Passes`), and whatever is due may be at fault (`Meets`). Proved in proofs/NumberExactly and proofs/LoadExactly. Assumes nothing.
+use Prim.Native.Nat.{ℕ, zero, suc, _+_, _*_, _^_, _≤_, _<_}
+use mathlib.Core.Path.{_≡_}
+use mathlib.Core.Logic.{_⊎_, _↔_}
+use mathlib.Core.Bool.{true, false}
+use mathlib.Core.List.{List}
+use lib.ListN.{length, getD}
+use lib.Count.{ones}
+use Rattle.numbers.specs.declared.Reading.the-variants.{Number, NumberFault}
+use Rattle.numbers.specs.Numbers.{mostBytes, decode}
+use Rattle.tables.specs.Sizes.{mostAttributes, mostTables, mostRows, mostCells}
+use Rattle.tables.specs.Rows.{below}
+use Rattle.image.specs.declared.Verdict.the-variants.{Good, Refused}
+use Rattle.image.specs.Reading.{codes}
+use Rattle.image.specs.Load.{version, scanOf}
+use Rattle.door.specs.Door.{checkOf}
+
+-- ---- a number's own faults
+
+-- "The top bit of a byte set on all but the last": k bytes from place i on that are there and have it.
+abbrev pub GoesOn : List ℕ → ℕ → ℕ → Type 0
+GoesOn s i k = (d : ℕ) → d < k → (i + d < length s) × (128 ≤ getD s (i + d) 0)
+
+-- "1: the image ends inside a number, or where one is due"
+abbrev pub EndsInside : List ℕ → ℕ → Type 0
+EndsInside s i = (k : ℕ) × (k < mostBytes) × GoesOn s i k × (length s ≤ i + k)
+
+-- "2: a number isn't shortest, or its ninth byte has the top bit set"
+abbrev pub NotShortest : List ℕ → ℕ → Type 0
+NotShortest s i = (k : ℕ) × (0 < k) × (k < mostBytes) × GoesOn s i k × (i + k < length s) × (getD s (i + k) 0 ≡ 0)
+
+abbrev pub TooLong : List ℕ → ℕ → Type 0
+TooLong s i = GoesOn s i mostBytes
+
+pub record NumberExact (s : List ℕ) (i : ℕ) : Type 0 where
+  pub ends : (decode s i ≡ NumberFault 1) ↔ EndsInside s i
+  pub not-good : (decode s i ≡ NumberFault 2) ↔ (NotShortest s i ⊎ TooLong s i)
+  pub no-other : (k : ℕ) → decode s i ≡ NumberFault k → (k ≡ 1) ⊎ (k ≡ 2)
+
+-- ---- what is due in an image, "in reading order"
+
+-- The row before the one that is read: none, or the one that starts at a place.
+pub data Before : Type 0 where
+  none : Before
+  rowAt : ℕ → Before
+
+-- m is the number of attributes, k how many tables are still to come, u the cells so far.
+pub data Due : Type 0 where
+  theVersion : Due
+  attributes : Due
+  tables : (m : ℕ) → Due
+  -- k tables, the first of which begins with its scheme; with none, nothing
+  table : (m k u : ℕ) → Due
+  -- the row count of a table with scheme x
+  rowCount : (m k u x : ℕ) → Due
+  -- c rows of it, behind the row before
+  rows : (m k u x c : ℕ) → Before → Due
+  -- w cells of the row that starts at place p, behind which c rows follow
+  cells : (m k u x c : ℕ) → Before → (p w : ℕ) → Due
+
+-- Where a number is due. With no tables or cells left, none is, and none where a row begins.
+abbrev pub NumberDue : Due → Type 0
+NumberDue theVersion = Unit
+NumberDue attributes = Unit
+NumberDue (tables m) = Unit
+NumberDue (table m zero u) = ⊥
+NumberDue (table m (suc k) u) = Unit
+NumberDue (rowCount m k u x) = Unit
+NumberDue (rows m k u x c b) = ⊥
+NumberDue (cells m k u x c b p zero) = ⊥
+NumberDue (cells m k u x c b p (suc w)) = Unit
+
+-- The row at place p, of w cells, rises above the one before, if there is one.
+abbrev pub Rises : List ℕ → ℕ → Before → ℕ → Type 0
+Rises s w none p = Unit
+Rises s w (rowAt q) p = below (codes w s q) (codes w s p) ≡ true
+
+-- What is due at place i is not at fault, and the other is due next, at place j.
+pub data Passes (s : List ℕ) (room : ℕ) : Due → ℕ → Due → ℕ → Type 0 where
+  version-is : {i j : ℕ} → decode s i ≡ Number version j → Passes s room theVersion i attributes j
+  m-is : {i j m : ℕ} → decode s i ≡ Number m j → 1 ≤ m → m ≤ mostAttributes → Passes s room attributes i (tables m) j
+  n-is : {i j m n : ℕ} → decode s i ≡ Number n j → 1 ≤ n → n ≤ mostTables → Passes s room (tables m) i (table m n 0) j
+  scheme-is : {i j m k u x : ℕ} → decode s i ≡ Number x j → 0 < x → x < 2 ^ m → Passes s room (table m (suc k) u) i (rowCount m k u x) j
+  count-is : {i j m k u x c : ℕ} → decode s i ≡ Number c j → c ≤ mostRows → u + c * ones x ≤ mostCells → u + c * ones x ≤ room
+      → Passes s room (rowCount m k u x) i (rows m k (u + c * ones x) x c none) j
+  row-begins : {i m k u x c : ℕ} {b : Before} → Passes s room (rows m k u x (suc c) b) i (cells m k u x c b i (ones x)) i
+  cell-is : {i j m k u x c v p w : ℕ} {b : Before} → decode s i ≡ Number v j → Passes s room (cells m k u x c b p (suc w)) i (cells m k u x c b p w) j
+  row-rises : {i m k u x c p : ℕ} {b : Before} → Rises s (ones x) b p → Passes s room (cells m k u x c b p 0) i (rows m k u x c (rowAt p)) i
+  rows-end : {i m k u x : ℕ} {b : Before} → Passes s room (rows m k u x 0 b) i (table m k u) i
+
+-- What is due at place i is at fault: the refusal, and its place. "The place is the first byte of the number at fault, for 7 of the row, for 9 of the surplus."
+pub data Meets (s : List ℕ) (room : ℕ) : Due → ℕ → ℕ → ℕ → Type 0 where
+  -- "a number's own faults (1, 2) as it is read, then its meaning"
+  number : {d : Due} {i f : ℕ} → NumberDue d → decode s i ≡ NumberFault f → Meets s room d i f i
+  -- "3: the version isn't 1"
+  other-version : {i j v : ℕ} → decode s i ≡ Number v j → (v ≡ version → ⊥) → Meets s room theVersion i 3 i
+  -- "4: m or n out of range"
+  m-out : {i j m : ℕ} → decode s i ≡ Number m j → (m < 1) ⊎ (mostAttributes < m) → Meets s room attributes i 4 i
+  n-out : {i j m n : ℕ} → decode s i ≡ Number n j → (n < 1) ⊎ (mostTables < n) → Meets s room (tables m) i 4 i
+  -- "5: a scheme is 0 or not below 2^m"
+  bad-scheme : {i j m k u x : ℕ} → decode s i ≡ Number x j → (x ≡ 0) ⊎ (2 ^ m ≤ x) → Meets s room (table m (suc k) u) i 5 i
+  -- "6: more than 255 rows"
+  many-rows : {i j m k u x c : ℕ} → decode s i ≡ Number c j → mostRows < c → Meets s room (rowCount m k u x) i 6 i
+  -- "8: cells so far, this table included, pass 8,192 or the lent cell slice"; "at a row count 6, then 8"
+  many-cells : {i j m k u x c : ℕ} → decode s i ≡ Number c j → c ≤ mostRows → (mostCells < u + c * ones x) ⊎ (room < u + c * ones x)
+      → Meets s room (rowCount m k u x) i 8 i
+  -- "7: a row doesn't rise above the one before", "after the row's last cell"
+  not-rising : {i m k u x c p q : ℕ} → below (codes (ones x) s q) (codes (ones x) s p) ≡ false → Meets s room (cells m k u x c (rowAt q) p 0) i 7 p
+  -- "9: bytes after the last table"
+  surplus : {i m u : ℕ} → i < length s → Meets s room (table m 0 u) i 9 i
+
+-- The reading comes to what is due at a place: nothing before it is at fault.
+pub data Reaches (s : List ℕ) (room : ℕ) : Due → ℕ → Type 0 where
+  start : Reaches s room theVersion 0
+  on : {d e : Due} {i j : ℕ} → Reaches s room d i → Passes s room d i e j → Reaches s room e j
+
+-- "The first fault in reading order": its condition holds, and no earlier one does.
+abbrev pub FirstFault : List ℕ → ℕ → ℕ → ℕ → Type 0
+FirstFault s room k p = (d : Due) × (i : ℕ) × Reaches s room d i × Meets s room d i k p
+
+-- The reading comes to the end behind the last table, and nothing follows.
+abbrev pub ReadWhole : List ℕ → ℕ → Type 0
+ReadWhole s room = (m : ℕ) × (u : ℕ) × (i : ℕ) × Reaches s room (table m 0 u) i × (length s ≤ i)
+
+-- ---- the demand
+
+-- Of a load of the bytes s into `room` cells.
+pub record LoadExact (s : List ℕ) (room : ℕ) : Type 0 where
+  pub refuses : (k p : ℕ) → (scanOf s room .verdict ≡ Refused k p) ↔ FirstFault s room k p
+  pub accepts : (scanOf s room .verdict ≡ Good) ↔ ReadWhole s room
+
+-- Of the C door, which "assumes 8,192 cells of room".
+pub record CheckExact (s : List ℕ) : Type 0 where
+  pub refuses : (k p : ℕ) → k < 32 → 0 < k → (checkOf s ≡ p * 32 + k) ↔ FirstFault s mostCells k p
+  pub accepts : (checkOf s ≡ 0) ↔ ReadWhole s mostCells
