@@ -11,3 +11,5 @@ pub mod Longers
 pub mod Frauds
 pub mod Edged
 pub mod Determined
+pub mod ScanLaws
+pub mod CatalogueExactly

@@ -1,3 +1,6 @@
 pub mod Demands
 pub mod Edges
 pub mod Outcomes
+pub mod CatalogueRefusals
+pub mod WriteRefusals
+pub mod CallRefusals
