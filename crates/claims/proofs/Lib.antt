@@ -13,3 +13,4 @@ pub mod Edged
 pub mod Determined
 pub mod ScanLaws
 pub mod CatalogueExactly
+pub mod CallExactly
