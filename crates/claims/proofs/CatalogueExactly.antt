@@ -1,6 +1,6 @@
 -- A catalogue's refusals, each exactly when: 4 from the sizes, 5, 6 and 8 from the first table that meets one. What carries the proof: for every number
 -- that a check can give there is a condition, and it gives the number exactly when that holds. Assumes nothing.
-use Prim.Native.Nat.{ℕ, zero, suc, _+_, _*_, _^_, _<_}
+use Prim.Native.Nat.{ℕ, _+_, _*_, _^_, _<_}
 use native.Mathlib.Decide.{ℕ-discrete}
 use native.Mathlib.Omega.{arith}
 use mathlib.Core.Path.{_≡_, refl, sym, ap, _∙_}
@@ -12,10 +12,10 @@ use Rattle.tables.specs.declared.Catalogue.{Catalogue}
 use Rattle.tables.specs.Sizes.{mostAttributes, mostTables, mostRows, mostCells}
 use Rattle.tables.specs.Catalogues.{schemeOf, countOf, firstCell}
 use Rattle.tables.specs.Checks.{firstOf, outside, sizeFault, badScheme, countFault, tableFault, tablesFault, catalogueFault}
-use Rattle.tables.proofs.CheckLaws.{faultAt, fault-lawful, lawful-fault}
+use Rattle.tables.proofs.CheckLaws.{first-none, first-clear, faultAt, fault-lawful, lawful-fault}
 use Rattle.tables.proofs.CatalogueLaws.{cells-next}
 use Rattle.claims.specs.CatalogueRefusals.{SizesOut, BadScheme, ManyRows, ManyCells, GoodHead, ComesTo, CatalogueExact}
-use Rattle.claims.proofs.ScanLaws.{lt-iff, le-iff, eq-iff, or-iff, Case, case-of, step-iff, last-iff, first-iff, scan, Meets, meets-iff}
+use Rattle.claims.proofs.ScanLaws.{lt-iff, le-iff, eq-iff, or-iff, Case, case-of, step-iff, last-iff, first-iff, scan, scan-of, Meets, meets-iff, meets-none}
 
 module _ (cat : Catalogue) where
   -- ---- 4
@@ -80,6 +80,14 @@ module _ (cat : Catalogue) where
     pub head-good : (t : ℕ) → Head t 0 ↔ GoodHead cat lent t
     head-good t = (λ (b, (m, c)). (b, m, c), λ (b, m, c). (b, (m, c)))
 
+    -- 6 and 8 at table t in one row of conditions, whatever it is to come to a table.
+    pub flat-six : {A : Type 0} {To : ℕ → Type 0} → (A ↔ ((t : ℕ) × To t × Head t 6)) → A ↔ ((t : ℕ) × To t × (BadScheme cat t → ⊥) × ManyRows cat t)
+    flat-six p = (λ e. let (t, c, (b, m)) = p .0 e in (t, c, b, m), λ (t, c, b, m). p .1 (t, c, (b, m)))
+
+    pub flat-eight : {A : Type 0} {To : ℕ → Type 0} → (A ↔ ((t : ℕ) × To t × Head t 8))
+        → A ↔ ((t : ℕ) × To t × (BadScheme cat t → ⊥) × (ManyRows cat t → ⊥) × ManyCells cat lent t)
+    flat-eight p = (λ e. let (t, c, (b, (m, x))) = p .0 e in (t, c, b, m, x), λ (t, c, b, m, x). p .1 (t, c, (b, (m, x))))
+
     pub which-head : (t k : ℕ) → Head t k → (k ≡ 0) ⊎ (k ≡ 5) ⊎ (k ≡ 6) ⊎ (k ≡ 8)
     which-head t k h =
         ⊎-elim (λ e. inr (inl e))
@@ -92,52 +100,49 @@ module _ (cat : Catalogue) where
 
   -- ---- 4, then table by table
 
-  -- W t k is what it is that table t meets k, and f its check.
-  module _ (f : ℕ → ℕ) (W : ℕ → ℕ → Type 0) (each : (t k : ℕ) → (f t ≡ k) ↔ W t k) where
-    abbrev checked : ℕ
-    checked = firstOf (sizeFault (cat .m) (cat .n)) (scan f (cat .n) 0)
-
-    pub checked-iff : (k : ℕ) → (k ≡ 0 → ⊥) → (checked ≡ k) ↔ (Sized k ⊎ ((SizesOut cat → ⊥) × Meets f W each (cat .n) k))
+  -- W t k is what it is that table t meets k, and f its check; c is what all checks give.
+  module _ (f : ℕ → ℕ) (W : ℕ → ℕ → Type 0) (each : (t k : ℕ) → (f t ≡ k) ↔ W t k) (c : ℕ) (whole : c ≡ firstOf (sizeFault (cat .m) (cat .n)) (scan f (cat .n) 0)) where
+    checked-iff : (k : ℕ) → (k ≡ 0 → ⊥) → (c ≡ k) ↔ (Sized k ⊎ ((SizesOut cat → ⊥) × Meets f W each (cat .n) k))
     checked-iff k h =
         let p = first-iff (sizeFault (cat .m) (cat .n)) (scan f (cat .n) 0) k h in
         let q = meets-iff f W each (cat .n) k h in (
-          λ e. ⊎-elim (λ a. inl (size-iff k .0 a)) (λ c. inr (size-iff 0 .0 (c .0), q .0 (c .1))) (p .0 e),
-          λ s. p .1 (⊎-elim (λ a. inl (size-iff k .1 a)) (λ c. inr (size-iff 0 .1 (c .0), q .1 (c .1))) s),
+          λ e. ⊎-elim (λ a. inl (size-iff k .0 a)) (λ x. inr (size-iff 0 .0 (x .0), q .0 (x .1))) (p .0 (sym whole ∙ e)),
+          λ s. whole ∙ p .1 (⊎-elim (λ a. inl (size-iff k .1 a)) (λ x. inr (size-iff 0 .1 (x .0), q .1 (x .1))) s),
         )
 
     -- 4 is met by the sizes alone, the others by the tables alone.
-    pub checked-four : ((t : ℕ) → W t 4 → ⊥) → (checked ≡ 4) ↔ SizesOut cat
+    pub checked-four : ((t : ℕ) → W t 4 → ⊥) → (c ≡ 4) ↔ SizesOut cat
     checked-four n =
         let p = checked-iff 4 (λ z. absurd (omega arith)) in
         (λ e. ⊎-elim (λ s. s) (λ (z, (t, l, x, b)). absurd (n t x)) (p .0 e), λ s. p .1 (inl s))
 
-    pub checked-table : (k : ℕ) → (k ≡ 0 → ⊥) → (Sized k → ⊥) → (checked ≡ k) ↔ ((SizesOut cat → ⊥) × Meets f W each (cat .n) k)
+    pub checked-table : (k : ℕ) → (k ≡ 0 → ⊥) → (Sized k → ⊥) → (c ≡ k) ↔ ((SizesOut cat → ⊥) × Meets f W each (cat .n) k)
     checked-table k h n =
         let p = checked-iff k h in
         (λ e. ⊎-elim (λ s. absurd (n s)) (λ m. m) (p .0 e), λ m. p .1 (inr m))
 
+    pub checked-none : (c ≡ 0) ↔ ((SizesOut cat → ⊥) × ((t : ℕ) → t < cat .n → W t 0))
+    checked-none =
+        let p = meets-none f W each (cat .n) in (
+          λ e. let (x, y) = first-clear (sizeFault (cat .m) (cat .n)) (scan f (cat .n) 0) (sym whole ∙ e) in (size-iff 0 .0 x, p .0 y),
+          λ (s, g). whole ∙ first-none (sizeFault (cat .m) (cat .n)) (scan f (cat .n) 0) (size-iff 0 .1 s) ∙ p .1 g,
+        )
+
   -- ---- the catalogue
 
   module _ (lent : ℕ) where
-    tables-scan : (k t : ℕ) → tablesFault k cat lent t ≡ scan (faultAt cat lent) k t
-    unfolding tablesFault scan
-    tables-scan zero t = refl
-    tables-scan (suc k) t = ap (firstOf (faultAt cat lent t)) (tables-scan k (t + 1))
-
-    catalogue-scan : catalogueFault cat lent ≡ firstOf (sizeFault (cat .m) (cat .n)) (scan (faultAt cat lent) (cat .n) 0)
-    unfolding catalogueFault
-    catalogue-scan = ap (firstOf (sizeFault (cat .m) (cat .n))) (tables-scan (cat .n) 0)
+    whole : catalogueFault cat lent ≡ firstOf (sizeFault (cat .m) (cat .n)) (scan (faultAt cat lent) (cat .n) 0)
+    unfolding catalogueFault tablesFault
+    whole = ap (firstOf (sizeFault (cat .m) (cat .n))) (scan-of (faultAt cat lent) (λ k t. tablesFault k cat lent t) (λ t. refl) (λ k t. refl) (cat .n) 0)
 
     catalogue-four : (catalogueFault cat lent ≡ 4) ↔ SizesOut cat
-    catalogue-four =
-        let p = checked-four (faultAt cat lent) (Head lent) (head-iff lent) (λ t x. x .1 .1) in
-        (λ e. p .0 (sym catalogue-scan ∙ e), λ s. catalogue-scan ∙ p .1 s)
+    catalogue-four = checked-four (faultAt cat lent) (Head lent) (head-iff lent) (catalogueFault cat lent) whole (λ t x. x .1 .1)
 
     catalogue-table : (k : ℕ) → (k ≡ 0 → ⊥) → (Sized k → ⊥) → (catalogueFault cat lent ≡ k) ↔ ((t : ℕ) × ComesTo cat lent t × Head lent t k)
     catalogue-table k h n =
-        let p = checked-table (faultAt cat lent) (Head lent) (head-iff lent) k h n in (
-          λ e. let (z, (t, l, x, b)) = p .0 (sym catalogue-scan ∙ e) in (t, record { sizes = z; there = l; before = λ u j. head-good lent u .0 (b u j) }, x),
-          λ (t, c, x). catalogue-scan ∙ p .1 (c .sizes, (t, c .there, x, λ u j. head-good lent u .1 (c .before u j))),
+        let p = checked-table (faultAt cat lent) (Head lent) (head-iff lent) (catalogueFault cat lent) whole k h n in (
+          λ e. let (z, (t, l, x, b)) = p .0 e in (t, record { sizes = z; there = l; before = λ u j. head-good lent u .0 (b u j) }, x),
+          λ (t, c, x). p .1 (c .sizes, (t, c .there, x, λ u j. head-good lent u .1 (c .before u j))),
         )
 
     catalogue-other : (k : ℕ) → catalogueFault cat lent ≡ k → (k ≡ 0) ⊎ (k ≡ 4) ⊎ (k ≡ 5) ⊎ (k ≡ 6) ⊎ (k ≡ 8)
@@ -155,12 +160,8 @@ catalogue-exact cat lent =
     record {
       refusal-4 = catalogue-four cat lent;
       refusal-5 = catalogue-table cat lent 5 (λ z. absurd (omega arith)) (λ s. s);
-      refusal-6 =
-          let p = catalogue-table cat lent 6 (λ z. absurd (omega arith)) (λ s. s) in
-          (λ e. let (t, c, (b, m)) = p .0 e in (t, c, b, m), λ (t, c, b, m). p .1 (t, c, (b, m)));
-      refusal-8 =
-          let p = catalogue-table cat lent 8 (λ z. absurd (omega arith)) (λ s. s) in
-          (λ e. let (t, c, (b, (m, x))) = p .0 e in (t, c, b, m, x), λ (t, c, b, m, x). p .1 (t, c, (b, (m, x))));
+      refusal-6 = flat-six cat lent (catalogue-table cat lent 6 (λ z. absurd (omega arith)) (λ s. s));
+      refusal-8 = flat-eight cat lent (catalogue-table cat lent 8 (λ z. absurd (omega arith)) (λ s. s));
       none = (fault-lawful cat lent, lawful-fault cat lent);
       no-other = catalogue-other cat lent;
     }

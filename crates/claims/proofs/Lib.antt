@@ -14,3 +14,5 @@ pub mod Determined
 pub mod ScanLaws
 pub mod CatalogueExactly
 pub mod CallExactly
+pub mod RowsExactly
+pub mod WriteExactly

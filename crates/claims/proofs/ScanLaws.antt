@@ -3,7 +3,7 @@
 use Prim.Native.Nat.{ℕ, zero, suc, _+_, _≤_, _<_}
 use native.Mathlib.Decide.{ℕ-discrete, decLt}
 use native.Mathlib.Omega.{arith}
-use mathlib.Core.Path.{_≡_, refl, sym, _∙_}
+use mathlib.Core.Path.{_≡_, refl, sym, ap, _∙_}
 use mathlib.Core.Logic.{_⊎_, _↔_, inl, inr, ⊎-elim}
 use mathlib.Core.Bool.{Bool, true, false, cond, _||_}
 use lib.Dec.{ltb, leb, eqb}
@@ -88,6 +88,12 @@ scan f zero i = 0
 scan f (suc k) i = firstOf (f i) (scan f k (i + 1))
 
 module _ (f : ℕ → ℕ) where
+  -- Whatever goes on check by check is a scan.
+  pub scan-of : (g : ℕ → ℕ → ℕ) → ((i : ℕ) → g 0 i ≡ 0) → ((k i : ℕ) → g (suc k) i ≡ firstOf (f i) (g k (i + 1))) → (k i : ℕ) → g k i ≡ scan f k i
+  unfolding scan
+  scan-of g none more zero i = none i
+  scan-of g none more (suc k) i = more k i ∙ ap (firstOf (f i)) (scan-of g none more k (i + 1))
+
   -- Check t finds it, and none of those before it, from i on, finds anything.
   pub record Found (i k v : ℕ) : Type 0 where
     pub at : ℕ
