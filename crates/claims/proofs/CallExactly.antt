@@ -85,7 +85,8 @@ module _ (cat : Catalogue) (cells row : List ℕ) where
   works-says here = refl
   works-says (tried d e w) = ap (λ (s : Called). s .says) (work-trial cat cells row _ _ _ d e) ∙ works-says w
 
-  stops-says : (b : ℕ) (q : State) (x : Trial) (r : ℕ) → Stops x b q → ((a : ℕ) (p : State) → afterTrial x p row (λ z. work cat cells a z row) .says ≡ refused r)
+  stops-says : (b : ℕ) (q : State) (x : Trial) (r : ℕ) → Stops x b q
+      → ((a : ℕ) (p : State) → afterTrial x p row (λ z. work cat cells a z row) .says ≡ refused r)
       → work cat cells b q row .says ≡ refused r
   stops-says b q x r (a, p, w, d, e) h = works-says w ∙ ap (λ (s : Called). s .says) (work-trial cat cells row a p x d e) ∙ h a p
 

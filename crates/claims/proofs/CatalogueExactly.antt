@@ -81,7 +81,8 @@ module _ (cat : Catalogue) where
     head-good t = (λ (b, (m, c)). (b, m, c), λ (b, m, c). (b, (m, c)))
 
     -- 6 and 8 at table t in one row of conditions, whatever it is to come to a table.
-    pub flat-six : {A : Type 0} {To : ℕ → Type 0} → (A ↔ ((t : ℕ) × To t × Head t 6)) → A ↔ ((t : ℕ) × To t × (BadScheme cat t → ⊥) × ManyRows cat t)
+    pub flat-six : {A : Type 0} {To : ℕ → Type 0} → (A ↔ ((t : ℕ) × To t × Head t 6))
+        → A ↔ ((t : ℕ) × To t × (BadScheme cat t → ⊥) × ManyRows cat t)
     flat-six p = (λ e. let (t, c, (b, m)) = p .0 e in (t, c, b, m), λ (t, c, b, m). p .1 (t, c, (b, m)))
 
     pub flat-eight : {A : Type 0} {To : ℕ → Type 0} → (A ↔ ((t : ℕ) × To t × Head t 8))
@@ -100,9 +101,12 @@ module _ (cat : Catalogue) where
 
   -- ---- 4, then table by table
 
-  -- W t k is what it is that table t meets k, and f its check; c is what all checks give.
-  module _ (f : ℕ → ℕ) (W : ℕ → ℕ → Type 0) (each : (t k : ℕ) → (f t ≡ k) ↔ W t k) (c : ℕ) (whole : c ≡ firstOf (sizeFault (cat .m) (cat .n)) (scan f (cat .n) 0)) where
-    checked-iff : (k : ℕ) → (k ≡ 0 → ⊥) → (c ≡ k) ↔ (Sized k ⊎ ((SizesOut cat → ⊥) × Meets f W each (cat .n) k))
+  -- c is what the check of the sizes and then the check f of each table give; W t k is what it is that table t meets k.
+  abbrev pub Whole : ℕ → (ℕ → ℕ) → Type 0
+  Whole c f = c ≡ firstOf (sizeFault (cat .m) (cat .n)) (scan f (cat .n) 0)
+
+  module _ (f : ℕ → ℕ) (W : ℕ → ℕ → Type 0) (each : (t k : ℕ) → (f t ≡ k) ↔ W t k) (c : ℕ) (whole : Whole c f) where
+    checked-iff : (k : ℕ) → (k ≡ 0 → ⊥) → (c ≡ k) ↔ (Sized k ⊎ ((SizesOut cat → ⊥) × Meets W (cat .n) k))
     checked-iff k h =
         let p = first-iff (sizeFault (cat .m) (cat .n)) (scan f (cat .n) 0) k h in
         let q = meets-iff f W each (cat .n) k h in (
@@ -116,7 +120,7 @@ module _ (cat : Catalogue) where
         let p = checked-iff 4 (λ z. absurd (omega arith)) in
         (λ e. ⊎-elim (λ s. s) (λ (z, (t, l, x, b)). absurd (n t x)) (p .0 e), λ s. p .1 (inl s))
 
-    pub checked-table : (k : ℕ) → (k ≡ 0 → ⊥) → (Sized k → ⊥) → (c ≡ k) ↔ ((SizesOut cat → ⊥) × Meets f W each (cat .n) k)
+    pub checked-table : (k : ℕ) → (k ≡ 0 → ⊥) → (Sized k → ⊥) → (c ≡ k) ↔ ((SizesOut cat → ⊥) × Meets W (cat .n) k)
     checked-table k h n =
         let p = checked-iff k h in
         (λ e. ⊎-elim (λ s. absurd (n s)) (λ m. m) (p .0 e), λ m. p .1 (inr m))
@@ -131,7 +135,7 @@ module _ (cat : Catalogue) where
   -- ---- the catalogue
 
   module _ (lent : ℕ) where
-    whole : catalogueFault cat lent ≡ firstOf (sizeFault (cat .m) (cat .n)) (scan (faultAt cat lent) (cat .n) 0)
+    whole : Whole (catalogueFault cat lent) (faultAt cat lent)
     unfolding catalogueFault tablesFault
     whole = ap (firstOf (sizeFault (cat .m) (cat .n))) (scan-of (faultAt cat lent) (λ k t. tablesFault k cat lent t) (λ t. refl) (λ k t. refl) (cat .n) 0)
 

@@ -51,12 +51,16 @@ module _ (cat : Catalogue) (cells : List ℕ) (t : ℕ) where
   abbrev rising : ℕ → Bool
   rising r = not (ltb 1 r) || below (row (r - 1)) (row r)
 
+  -- "per row 10, then 7"
   abbrev rowFault : ℕ → ℕ
   rowFault r = cond (tooHigh (row r)) 10 (cond (not (rising r)) 7 0)
 
   -- What it is that row r meets k.
   abbrev pub Row : ℕ → ℕ → Type 0
-  Row r k = Case 10 k (HighCode cat cells t r) ((HighCode cat cells t r → ⊥) × Case 7 k (NotRising cat cells t r) (Case 0 k (NotRising cat cells t r → ⊥) ⊥))
+  Row r k =
+      Case 10 k (HighCode cat cells t r)
+      ((HighCode cat cells t r → ⊥) × Case 7 k (NotRising cat cells t r)
+      (Case 0 k (NotRising cat cells t r → ⊥) ⊥))
 
   flat-iff : (r : ℕ) → (not (rising r) ≡ true) ↔ NotRising cat cells t r
   flat-iff r = (
@@ -95,7 +99,8 @@ module _ (cat : Catalogue) (cells : List ℕ) (t : ℕ) where
   rising-next : (i : ℕ) → below (row (i + 1)) (row (i + 1 + 1)) ≡ rising (i + 1 + 1)
   rising-next i = let a : i + 1 + 1 - 1 ≡ i + 1 = omega arith in rw (a, lt-ltb 1 (i + 1 + 1) (omega arith))
 
-  rows-scan : (k i : ℕ) (first : Bool) (before at : ℕ) → at ≡ rowStart cat t (i + 1) → (first || below (part before width cells) (part at width cells)) ≡ rising (i + 1)
+  rows-scan : (k i : ℕ) (first : Bool) (before at : ℕ) → at ≡ rowStart cat t (i + 1)
+      → (first || below (part before width cells) (part at width cells)) ≡ rising (i + 1)
       → rowsFault k width cells first before at ≡ scan (λ j. rowFault (j + 1)) k i
   unfolding rowsFault scan
   rows-scan zero i first before at a o = refl
@@ -104,25 +109,33 @@ module _ (cat : Catalogue) (cells : List ℕ) (t : ℕ) where
       let rest = rows-scan k (i + 1) false at (at + width) next (rw (a, start-next i) (rising-next i)) in
       rw (o, rest, a) (row-first (tooHigh (row (i + 1))) (rising (i + 1)) (scan (λ j. rowFault (j + 1)) k (i + 1)))
 
-  table-scan : rowsAt cat cells t ≡ scan (λ j. rowFault (j + 1)) (countOf cat t) 0
+  -- Place i, from 0, is row i + 1.
+  abbrev check : ℕ → ℕ
+  check i = rowFault (i + 1)
+
+  table-scan : rowsAt cat cells t ≡ scan check (countOf cat t) 0
   unfolding rowStart
   table-scan = rows-scan (countOf cat t) 0 true 0 (firstCell cat t) (omega arith) refl
+
+  back : (r : ℕ) → 1 ≤ r → r - 1 + 1 ≡ r
+  back r h = omega arith
 
   -- Row r is the first that meets something, and meets k.
   abbrev pub RowsMeet : ℕ → Type 0
   RowsMeet k = (r : ℕ) × (1 ≤ r) × (r ≤ countOf cat t) × Row r k × ((q : ℕ) → 1 ≤ q → q < r → GoodRow cat cells t q)
 
-  back : (r : ℕ) → 1 ≤ r → r - 1 + 1 ≡ r
-  back r h = omega arith
-
   pub rows-iff : (k : ℕ) → (k ≡ 0 → ⊥) → (rowsAt cat cells t ≡ k) ↔ RowsMeet k
   rows-iff k h =
-      let p = meets-iff (λ j. rowFault (j + 1)) (λ j. Row (j + 1)) (λ j. row-iff (j + 1)) (countOf cat t) k h in (
-        λ e. let (i, l, x, b) = p .0 (sym table-scan ∙ e) in (i + 1, omega arith, omega arith, x, λ q j g. subst (λ (a : ℕ). Row a 0) (back q j) (b (q - 1) (omega arith))),
-        λ (r, j, l, x, b). table-scan ∙ p .1 (r - 1, omega arith, subst (λ (a : ℕ). Row a k) (sym (back r j)) x, λ u g. b (u + 1) (omega arith) (omega arith)),
+      let p = meets-iff check (λ j. Row (j + 1)) (λ j. row-iff (j + 1)) (countOf cat t) k h in (
+        λ e. let (i, l, x, b) = p .0 (sym table-scan ∙ e) in
+            (i + 1, omega arith, omega arith, x, λ q j g. subst (λ (a : ℕ). Row a 0) (back q j) (b (q - 1) (omega arith))),
+        λ (r, j, l, x, b). table-scan
+            ∙ p .1 (r - 1, omega arith, subst (λ (a : ℕ). Row a k) (sym (back r j)) x, λ u g. b (u + 1) (omega arith) (omega arith)),
       )
 
   pub rows-good : (rowsAt cat cells t ≡ 0) ↔ ((r : ℕ) → 1 ≤ r → r ≤ countOf cat t → GoodRow cat cells t r)
   rows-good =
-      let p = meets-none (λ j. rowFault (j + 1)) (λ j. Row (j + 1)) (λ j. row-iff (j + 1)) (countOf cat t) in
-      (λ e r j l. subst (λ (a : ℕ). Row a 0) (back r j) (p .0 (sym table-scan ∙ e) (r - 1) (omega arith)), λ g. table-scan ∙ p .1 (λ u l. g (u + 1) (omega arith) (omega arith)))
+      let p = meets-none check (λ j. Row (j + 1)) (λ j. row-iff (j + 1)) (countOf cat t) in (
+        λ e r j l. subst (λ (a : ℕ). Row a 0) (back r j) (p .0 (sym table-scan ∙ e) (r - 1) (omega arith)),
+        λ g. table-scan ∙ p .1 (λ u l. g (u + 1) (omega arith) (omega arith)),
+      )

@@ -35,11 +35,12 @@ iff-no a p = (λ e x. clash (p .1 x) e, λ n. not-yes a (λ e. n (p .0 e)))
 
 -- ---- what one number stands for
 
--- A where the number k is n, and B elsewhere.
+-- A where the test says yes, and B elsewhere.
 abbrev pub Where : Bool → Type 0 → Type 0 → Type 0
 Where true A B = A
 Where false A B = B
 
+-- A where k is n, and B elsewhere.
 abbrev pub Case : ℕ → ℕ → Type 0 → Type 0 → Type 0
 Case n k A B = Where (eqb n k) A B
 
@@ -52,7 +53,8 @@ case-of n k A B = by (eqb n k) refl
 
 module _ {A : Type 0} (b : Bool) (p : (b ≡ true) ↔ A) where
   -- A test that gives n, before a rest that never does.
-  pub step-iff : (n r : ℕ) (R : ℕ → Type 0) → ((k : ℕ) → (r ≡ k) ↔ R k) → (R n → ⊥) → (k : ℕ) → (cond b n r ≡ k) ↔ Case n k A ((A → ⊥) × R k)
+  pub step-iff : (n r : ℕ) (R : ℕ → Type 0) → ((k : ℕ) → (r ≡ k) ↔ R k) → (R n → ⊥)
+      → (k : ℕ) → (cond b n r ≡ k) ↔ Case n k A ((A → ⊥) × R k)
   step-iff n r R q h k = by b refl (eqb n k) refl
     where
       by : (y : Bool) → b ≡ y → (x : Bool) → eqb n k ≡ x → (cond y n r ≡ k) ↔ Where x A ((A → ⊥) × R k)
@@ -89,7 +91,8 @@ scan f (suc k) i = firstOf (f i) (scan f k (i + 1))
 
 module _ (f : ℕ → ℕ) where
   -- Whatever goes on check by check is a scan.
-  pub scan-of : (g : ℕ → ℕ → ℕ) → ((i : ℕ) → g 0 i ≡ 0) → ((k i : ℕ) → g (suc k) i ≡ firstOf (f i) (g k (i + 1))) → (k i : ℕ) → g k i ≡ scan f k i
+  pub scan-of : (g : ℕ → ℕ → ℕ) → ((i : ℕ) → g 0 i ≡ 0) → ((k i : ℕ) → g (suc k) i ≡ firstOf (f i) (g k (i + 1)))
+      → (k i : ℕ) → g k i ≡ scan f k i
   unfolding scan
   scan-of g none more zero i = none i
   scan-of g none more (suc k) i = more k i ∙ ap (firstOf (f i)) (scan-of g none more k (i + 1))
@@ -132,13 +135,15 @@ module _ (f : ℕ → ℕ) where
         | yes z ↦ found-later k i v z (scan-found k (i + 1) v h (sym (scan-more k i z) ∙ e))
       ]
 
+  found-rest : (k i v : ℕ) (F : Found i (suc k) v) → i < F .at → Found (i + 1) k v
+  found-rest k i v F l =
+      record { at = F .at; low = omega arith; high = omega (arith, F .high); finds = F .finds; before = λ u j b. F .before u (omega arith) b }
+
   found-scan : (k i v : ℕ) → (v ≡ 0 → ⊥) → Found i k v → scan f k i ≡ v
   found-scan zero i v h F = absurd (omega (arith, F .low, F .high))
   found-scan (suc k) i v h F =
       elim (decLt i (F .at)) [
-        | yes l ↦
-            let z = F .before i (omega arith) l in
-            scan-more k i z ∙ found-scan k (i + 1) v h (record { at = F .at; low = omega arith; high = omega (arith, F .high); finds = F .finds; before = λ u j b. F .before u (omega arith) b })
+        | yes l ↦ scan-more k i (F .before i (omega arith) l) ∙ found-scan k (i + 1) v h (found-rest k i v F l)
         | no l ↦
             let q : F .at ≡ i = omega (arith, F .low) in
             let e : f i ≡ v = rw q at (F .finds) in
@@ -168,18 +173,19 @@ module _ (f : ℕ → ℕ) where
 
 -- ---- what many checks find
 
--- W i k is what it is that check i finds k.
-module _ (f : ℕ → ℕ) (W : ℕ → ℕ → Type 0) (each : (i k : ℕ) → (f i ≡ k) ↔ W i k) (n : ℕ) where
-  -- The first of n checks that finds something finds k.
-  abbrev pub Meets : ℕ → Type 0
-  Meets k = (i : ℕ) × (i < n) × W i k × ((u : ℕ) → u < i → W u 0)
+-- W i k is what it is that check i finds k: the first of n checks that finds something finds k.
+abbrev pub Meets : (ℕ → ℕ → Type 0) → ℕ → ℕ → Type 0
+Meets W n k = (i : ℕ) × (i < n) × W i k × ((u : ℕ) → u < i → W u 0)
 
-  pub meets-iff : (k : ℕ) → (k ≡ 0 → ⊥) → (scan f n 0 ≡ k) ↔ Meets k
-  meets-iff k h = (
-    λ e. let F = scan-iff f n k h .0 e in
-        (F .at, omega (arith, F .high), each (F .at) k .0 (F .finds), λ u l. each u 0 .0 (F .before u (omega arith) l)),
-    λ (i, l, x, b). scan-iff f n k h .1 (record { at = i; low = omega arith; high = omega arith; finds = each i k .1 x; before = λ u j g. each u 0 .1 (b u g) }),
-  )
+module _ (f : ℕ → ℕ) (W : ℕ → ℕ → Type 0) (each : (i k : ℕ) → (f i ≡ k) ↔ W i k) (n : ℕ) where
+  pub meets-iff : (k : ℕ) → (k ≡ 0 → ⊥) → (scan f n 0 ≡ k) ↔ Meets W n k
+  meets-iff k h =
+      let p = scan-iff f n k h in
+      let found : (i : ℕ) → i < n → W i k → ((u : ℕ) → u < i → W u 0) → Found f 0 n k =
+      λ i l x b. record { at = i; low = omega arith; high = omega arith; finds = each i k .1 x; before = λ u j g. each u 0 .1 (b u g) } in (
+        λ e. let F = p .0 e in (F .at, omega (arith, F .high), each (F .at) k .0 (F .finds), λ u l. each u 0 .0 (F .before u (omega arith) l)),
+        λ (i, l, x, b). p .1 (found i l x b),
+      )
 
   pub meets-none : (scan f n 0 ≡ 0) ↔ ((u : ℕ) → u < n → W u 0)
   meets-none = (λ e u h. each u 0 .0 (clear-iff f n .0 e u h), λ g. clear-iff f n .1 (λ u h. each u 0 .1 (g u h)))

@@ -19,8 +19,8 @@ use Rattle.image.specs.Write.{imageOf, tableRefusal, tablesRefusal, writeFault,
 use Rattle.image.proofs.AcceptLaws.{rowsAt}
 use Rattle.claims.specs.CatalogueRefusals.{SizesOut, GoodHead}
 use Rattle.claims.specs.WriteRefusals.{GoodTable, WritesTo, WritesToRow, WritesAll, WriteExact}
-use Rattle.claims.proofs.ScanLaws.{lt-iff, Where, Case, case-of, last-iff, first-iff, scan, scan-of}
-use Rattle.claims.proofs.CatalogueExactly.{Sized, sized-four, Head, head-iff, head-good, flat-six, flat-eight, which-head, checked-four, checked-table, checked-none}
+use Rattle.claims.proofs.ScanLaws.{lt-iff, Where, Case, case-of, last-iff, first-iff, scan-of}
+use Rattle.claims.proofs.CatalogueExactly.{Sized, sized-four, Head, head-iff, head-good, flat-six, flat-eight, which-head, Whole, checked-four, checked-table, checked-none}
 use Rattle.claims.proofs.RowsExactly.{Row, which-row, RowsMeet, rows-iff, rows-good}
 
 module _ (cat : Catalogue) (cells : List ℕ) where
@@ -64,7 +64,7 @@ module _ (cat : Catalogue) (cells : List ℕ) where
   abbrev check : ℕ → ℕ
   check = tableRefusal cat cells
 
-  whole : writeFault cat cells ≡ firstOf (sizeFault (cat .m) (cat .n)) (scan check (cat .n) 0)
+  whole : Whole cat (writeFault cat cells) check
   unfolding writeFault tablesRefusal
   whole = ap (firstOf (sizeFault (cat .m) (cat .n))) (scan-of check (λ k t. tablesRefusal k cat cells t) (λ t. refl) (λ k t. refl) (cat .n) 0)
 
