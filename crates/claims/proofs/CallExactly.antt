@@ -43,7 +43,7 @@ same-refusal j k e = ap number e
 
 -- ---- at work
 
-module _ (cat : Catalogue) (cells row : List ℕ) where
+module _ (cat : Catalogue) (cells : List ℕ) where
   -- A trial that is come to comes to x.
   abbrev Stops : Trial → ℕ → State → Type 0
   Stops x b q = (a : ℕ) × (p : State) × WorksTo cat cells b q (suc a) p × TrialDue cat cells p × (trialOn cat cells p ≡ x)
@@ -67,31 +67,32 @@ module _ (cat : Catalogue) (cells row : List ℕ) where
   why-on b q p t l d e finished h = h
   why-on b q p t l d e working h = h
 
-  why : (b : ℕ) (q : State) → Why b q (work cat cells b q row .says)
-  why =
-      by-ways cat cells row (λ b q s. Why b q (s .says))
-      (record {
-        ends = λ b q e f. refl;
-        hands = λ b q e f k. refl;
-        lost = λ b q e f k. inr (refl, inr (b, q, here, (e, f, k)));
-        spent = λ q e. refl;
-        fills = λ b q e f. inl (refl, (b, q, here, e, f));
-        fails = λ b q e f. inr (refl, inl (b, q, here, e, f));
-        goes = λ b q p t l e f ih. why-on b q p t l e f (work cat cells b p row .says) ih;
-      })
+  module _ (row : List ℕ) where
+    why : (b : ℕ) (q : State) → Why b q (work cat cells b q row .says)
+    why =
+        by-ways cat cells row (λ b q s. Why b q (s .says))
+        (record {
+          ends = λ b q e f. refl;
+          hands = λ b q e f k. refl;
+          lost = λ b q e f k. inr (refl, inr (b, q, here, (e, f, k)));
+          spent = λ q e. refl;
+          fills = λ b q e f. inl (refl, (b, q, here, e, f));
+          fails = λ b q e f. inr (refl, inl (b, q, here, e, f));
+          goes = λ b q p t l e f ih. why-on b q p t l e f (work cat cells b p row .says) ih;
+        })
 
-  -- And back: what is come to is said.
-  works-says : {b a : ℕ} {q p : State} → WorksTo cat cells b q a p → work cat cells b q row .says ≡ work cat cells a p row .says
-  works-says here = refl
-  works-says (tried d e w) = ap (λ (s : Called). s .says) (work-trial cat cells row _ _ _ d e) ∙ works-says w
+    -- And back: what is come to is said.
+    works-says : {b a : ℕ} {q p : State} → WorksTo cat cells b q a p → work cat cells b q row .says ≡ work cat cells a p row .says
+    works-says here = refl
+    works-says (tried d e w) = ap (λ (s : Called). s .says) (work-trial cat cells row _ _ _ d e) ∙ works-says w
 
-  stops-says : (b : ℕ) (q : State) (x : Trial) (r : ℕ) → Stops x b q
-      → ((a : ℕ) (p : State) → afterTrial x p row (λ z. work cat cells a z row) .says ≡ refused r)
-      → work cat cells b q row .says ≡ refused r
-  stops-says b q x r (a, p, w, d, e) h = works-says w ∙ ap (λ (s : Called). s .says) (work-trial cat cells row a p x d e) ∙ h a p
+    stops-says : (b : ℕ) (q : State) (x : Trial) (r : ℕ) → Stops x b q
+        → ((a : ℕ) (p : State) → afterTrial x p row (λ z. work cat cells a z row) .says ≡ refused r)
+        → work cat cells b q row .says ≡ refused r
+    stops-says b q x r (a, p, w, d, e) h = works-says w ∙ ap (λ (s : Called). s .says) (work-trial cat cells row a p x d e) ∙ h a p
 
-  lost-says : (b : ℕ) (q : State) → Lost b q → work cat cells b q row .says ≡ refused 14
-  lost-says b q (a, p, w, (e, f, k)) = works-says w ∙ ap (λ (s : Called). s .says) (work-lost cat cells row a p e f k)
+    lost-says : (b : ℕ) (q : State) → Lost b q → work cat cells b q row .says ≡ refused 14
+    lost-says b q (a, p, w, (e, f, k)) = works-says w ∙ ap (λ (s : Called). s .says) (work-lost cat cells row a p e f k)
 
 -- ---- the call
 
@@ -104,8 +105,8 @@ module _ (cat : Catalogue) (cells : List ℕ) (b : ℕ) (q : State) (row : List 
   Told k =
       Case 13 k (Good × (Fit cat q → ⊥))
       (Case 11 k (Good × Fit cat q × (length row < cat .m))
-      (Case 12 k (Good × Fit cat q × (cat .m ≤ length row) × Stops cat cells row full b q)
-      (Case 14 k (Good × Fit cat q × (cat .m ≤ length row) × (Stops cat cells row damaged b q ⊎ Lost cat cells row b q))
+      (Case 12 k (Good × Fit cat q × (cat .m ≤ length row) × Stops cat cells full b q)
+      (Case 14 k (Good × Fit cat q × (cat .m ≤ length row) × (Stops cat cells damaged b q ⊎ Lost cat cells b q))
       ⊥)))
 
   -- The state of the checks before work.
@@ -152,7 +153,7 @@ module _ (cat : Catalogue) (cells : List ℕ) (b : ℕ) (q : State) (row : List 
       met : (j : ℕ) → call cat cells b q row .says ≡ refused j → j ≡ k
       met j d = same-refusal j k (sym d ∙ e)
 
-      atWork : Good → Fit cat q → cat .m ≤ length row → Why cat cells row b q (refused k) → Told k
+      atWork : Good → Fit cat q → cat .m ≤ length row → Why cat cells b q (refused k) → Told k
       atWork L g h (inl (z, x)) = subst Told (sym z) (L, g, h, x)
       atWork L g h (inr (z, x)) = subst Told (sym z) (L, g, h, x)
 
@@ -160,7 +161,7 @@ module _ (cat : Catalogue) (cells : List ℕ) (b : ℕ) (q : State) (row : List 
       by (faulty n) = absurd (omega (arith, catalogue-low cat (length cells) k (met (catalogueFault cat (length cells)) (faulty-says n))))
       by (unfits L n) = subst Told (met 13 (unfit-says L n)) (L, n)
       by (short L g h) = subst Told (met 11 (short-says L g h)) (L, g, h)
-      by (works L g h) = atWork L g h (subst (Why cat cells row b q) (sym (work-says L g h) ∙ e) (why cat cells row b q))
+      by (works L g h) = atWork L g h (subst (Why cat cells b q) (sym (work-says L g h) ∙ e) (why cat cells row b q))
 
   pub call-exact : CallExact cat cells b q row
   call-exact =
