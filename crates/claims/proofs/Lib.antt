@@ -14,3 +14,8 @@ pub mod Determined
 pub mod NumberExactly
 pub mod LoadSays
 pub mod LoadExactly
+pub mod ScanLaws
+pub mod CatalogueExactly
+pub mod CallExactly
+pub mod RowsExactly
+pub mod WriteExactly

@@ -1,0 +1,43 @@
+-- The refusals of a catalogue, "4; then table by table 5, 6, 8", each in the form 'given exactly when its condition holds and no earlier one does'. Open, the
+-- stream call and the writer begin with them. Proved in proofs/CatalogueExactly. Assumes nothing.
+use Prim.Native.Nat.{ℕ, _+_, _^_, _≤_, _<_}
+use mathlib.Core.Path.{_≡_}
+use mathlib.Core.Logic.{_⊎_, _↔_}
+use Rattle.tables.specs.declared.Catalogue.{Catalogue}
+use Rattle.tables.specs.Sizes.{mostAttributes, mostTables, mostRows, mostCells}
+use Rattle.tables.specs.Catalogues.{schemeOf, countOf, firstCell}
+use Rattle.tables.specs.Checks.{catalogueFault, Lawful}
+
+-- "4: m or n out of range"
+abbrev pub SizesOut : Catalogue → Type 0
+SizesOut cat = ((cat .m < 1) ⊎ (mostAttributes < cat .m)) ⊎ ((cat .n < 1) ⊎ (mostTables < cat .n))
+
+-- "5: a scheme is 0 or not below 2^m", said of table t
+abbrev pub BadScheme : Catalogue → ℕ → Type 0
+BadScheme cat t = (schemeOf cat t ≡ 0) ⊎ (2 ^ (cat .m) ≤ schemeOf cat t)
+
+-- "6: more than 255 rows"
+abbrev pub ManyRows : Catalogue → ℕ → Type 0
+ManyRows cat t = mostRows < countOf cat t
+
+-- "8: cells so far, this table included, pass 8,192 or the lent cell slice", of which `lent` is the length
+abbrev pub ManyCells : Catalogue → ℕ → ℕ → Type 0
+ManyCells cat lent t = (mostCells < firstCell cat (t + 1)) ⊎ (lent < firstCell cat (t + 1))
+
+-- Table t meets none of 5, 6 and 8.
+abbrev pub GoodHead : Catalogue → ℕ → ℕ → Type 0
+GoodHead cat lent t = (BadScheme cat t → ⊥) × (ManyRows cat t → ⊥) × (ManyCells cat lent t → ⊥)
+
+-- The check comes to table t: neither the sizes nor a table before it are at fault.
+pub record ComesTo (cat : Catalogue) (lent t : ℕ) : Type 0 where
+  pub sizes : SizesOut cat → ⊥
+  pub there : t < cat .n
+  pub before : (u : ℕ) → u < t → GoodHead cat lent u
+
+pub record CatalogueExact (cat : Catalogue) (lent : ℕ) : Type 0 where
+  pub refusal-4 : (catalogueFault cat lent ≡ 4) ↔ SizesOut cat
+  pub refusal-5 : (catalogueFault cat lent ≡ 5) ↔ ((t : ℕ) × ComesTo cat lent t × BadScheme cat t)
+  pub refusal-6 : (catalogueFault cat lent ≡ 6) ↔ ((t : ℕ) × ComesTo cat lent t × (BadScheme cat t → ⊥) × ManyRows cat t)
+  pub refusal-8 : (catalogueFault cat lent ≡ 8) ↔ ((t : ℕ) × ComesTo cat lent t × (BadScheme cat t → ⊥) × (ManyRows cat t → ⊥) × ManyCells cat lent t)
+  pub none : (catalogueFault cat lent ≡ 0) ↔ Lawful cat lent
+  pub no-other : (k : ℕ) → catalogueFault cat lent ≡ k → (k ≡ 0) ⊎ (k ≡ 4) ⊎ (k ≡ 5) ⊎ (k ≡ 6) ⊎ (k ≡ 8)
