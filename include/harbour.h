@@ -14,7 +14,8 @@
  *     }
  *
  * Link with the static library of the door: cc program.c libdoor.a
- * The calls below the door lie in another: cc program.c libabi.a libdoor.a
+ * The other calls lie in another: cc program.c libabi.a, with libdoor.a behind it
+ * where the door is called too.
  */
 #ifndef HARBOUR_H
 #define HARBOUR_H

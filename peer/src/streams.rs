@@ -381,5 +381,6 @@ pub fn compare(cases: u64, seed: u64, least: u64) -> bool {
     tally.table("open", &OPEN, least);
     tally.table("next", &next, least);
     tally.table("covers", &COVERS, least);
+    tally.calls();
     tally.end()
 }

@@ -6,6 +6,7 @@ use std::collections::BTreeMap;
 #[derive(Default)]
 pub struct Tally {
     met: BTreeMap<(String, String), u64>,
+    calls: u64,
     passed: u64,
     failed: u64,
 }
@@ -19,6 +20,7 @@ impl Tally {
     /// Both are names in the printed table.
     pub fn meet(&mut self, call: &str, answer: impl ToString) {
         *self.met.entry((call.to_string(), answer.to_string())).or_insert(0) += 1;
+        self.calls += 1;
     }
 
     /// Counts one comparison, and prints what differs.
@@ -54,6 +56,12 @@ impl Tally {
         }
         let columns: Vec<String> = counts.iter().map(|(answer, met)| format!("{answer}: {met}")).collect();
         println!("{call:<8} {}", columns.join(", "));
+    }
+
+    /// Prints how many calls were counted.
+    /// The tables hold them all.
+    pub fn calls(&self) {
+        println!("{} calls", self.calls);
     }
 
     /// Prints the last line and tells whether nothing failed.

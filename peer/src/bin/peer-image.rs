@@ -10,9 +10,13 @@ use peer::words::{self, CATALOGUE};
 use peer::{hold, library};
 use std::process::exit;
 
-/// How often each refusal has to be met on each call that can give it.
-/// A run that met one too rarely fails.
-const LEAST: u64 = 100;
+/// How many images a run makes, unless it is told.
+/// The edges come before them.
+const IMAGES: u64 = 420_000;
+
+/// How often each refusal has to be met on each call that can give it in such a run.
+/// A run that met one too rarely fails; one of fewer images has to meet it as often for its length.
+const LEAST: u64 = 2000;
 
 /// An image in hexadecimal digits.
 /// For the report of a difference.
@@ -131,7 +135,7 @@ fn compare_edges(random: &mut Random, tally: &mut Tally) {
 /// The exit code is 1 if anything failed.
 fn main() {
     let mut arguments = std::env::args().skip(1).map(|word| word.parse::<u64>().expect("use: peer-image [images] [seed]"));
-    let images = arguments.next().unwrap_or(120_000);
+    let images = arguments.next().unwrap_or(IMAGES);
     let mut random = Random::new(arguments.next().unwrap_or(1));
     let mut tally = Tally::default();
     if library::MOCK {
@@ -142,8 +146,10 @@ fn main() {
         let result = compare_image(&mut random, &mut tally);
         tally.compare(result);
     }
-    tally.table("check", &["0", "1", "2", "3", "4", "5", "6", "7", "8", "9"], LEAST);
-    tally.table("load", &["0", "1", "2", "3", "4", "5", "6", "7", "8", "9", "31"], LEAST);
-    tally.table("write", &["0", "4", "5", "6", "7", "8", "10", "11", "31"], LEAST);
+    let least = LEAST.min(images * LEAST / IMAGES);
+    tally.table("check", &["0", "1", "2", "3", "4", "5", "6", "7", "8", "9"], least);
+    tally.table("load", &["0", "1", "2", "3", "4", "5", "6", "7", "8", "9", "31"], least);
+    tally.table("write", &["0", "4", "5", "6", "7", "8", "10", "11", "31"], least);
+    tally.calls();
     exit(if tally.end() { 0 } else { 1 });
 }

@@ -12,8 +12,8 @@ use std::process::exit;
 
 /// How often each answer has to be met in a comparison.
 /// Runs of fewer cases than the usual number need proportionally fewer.
-const LEAST: u64 = 100;
-const CASES: u64 = 60_000;
+const LEAST: u64 = 2000;
+const CASES: u64 = 1_000_000;
 
 /// The sample of the rules: 25 bytes and the five lines that they print.
 /// The self check begins with it.
