@@ -30,5 +30,7 @@ pub mod rule;
 pub mod selfcheck;
 #[cfg(feature = "stream")]
 pub mod streams;
+#[cfg(feature = "stream")]
+pub mod swift;
 pub mod tally;
 pub mod words;

@@ -194,7 +194,7 @@ impl Store<'_> {
 
     /// Fills a record that was free.
     /// Both its links are 0.
-    fn fill(&mut self, record: usize, key: u64) {
+    pub fn fill(&mut self, record: usize, key: u64) {
         self.keys[record] = key;
         self.left[record] = 0;
         self.right[record] = 0;
@@ -252,14 +252,14 @@ impl Stop {
 
 /// How a search ended: the key was there, or an empty link ended it.
 /// The link is named by its record and the bit that chose it.
-enum Ending {
+pub enum Ending {
     There,
     Empty { record: usize, bit: u64 },
 }
 
 /// Searches the first `found` records for a key, with the number of looks.
 /// Look 8n + 1 must find the sought key: no bit is then taken.
-fn search(store: &Store, found: u64, tables: usize, key: u64) -> Result<(Ending, u64), Stop> {
+pub fn search(store: &Store, found: u64, tables: usize, key: u64) -> Result<(Ending, u64), Stop> {
     let mut record = 0;
     let mut depth = 0;
     loop {

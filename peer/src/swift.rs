@@ -1,0 +1,275 @@
+//! The stream's rule with every shortcut we know, for the benchmark: what a hurried Rust programmer would run in its stead.
+//! The answers and the counts are those of `rule`; the benchmark compares them before it times anything.
+use crate::image::{check_catalogue, Catalogue};
+use crate::refusal::Refusal;
+use crate::rule::{misfit, search, set_of, Answer, Counts, Ending, Outcome, Record, Stop, Store};
+
+/// What is worked out once in a call: where tables begin, how wide they are, which tables touch.
+/// The row walk reads nothing else of the catalogue.
+struct Plan<'a> {
+    cells: &'a [u64],
+    n: usize,
+    m: usize,
+    total: u64,
+    schemes: [u64; 8],
+    rows: [usize; 8],
+    starts: [usize; 8],
+    widths: [usize; 8],
+    touching: [u8; 8],
+}
+
+/// A set under way: its row numbers, its tables as a mask, and its merged row.
+/// An attribute on which members disagree, or one is null, has 0 there.
+struct Merged {
+    key: u64,
+    present: u8,
+    attributes: u64,
+    codes: [u64; 64],
+}
+
+impl<'a> Plan<'a> {
+    /// Checks the catalogue as open does and works the rest out.
+    fn checked(catalogue: &Catalogue, cells: &'a [u64]) -> Result<Plan<'a>, Refusal> {
+        check_catalogue(catalogue, cells.len())?;
+        let n = catalogue.n as usize;
+        let mut plan = Plan {
+            cells, n, m: catalogue.m as usize, total: 0, schemes: catalogue.schemes, rows: [0; 8], starts: [0; 8], widths: [0; 8], touching: [0; 8],
+        };
+        let mut place = 0;
+        for table in 0..n {
+            plan.rows[table] = usize::from(catalogue.rows[table]);
+            plan.widths[table] = catalogue.width(table);
+            plan.starts[table] = place;
+            place += catalogue.size(table);
+            plan.total += plan.rows[table] as u64;
+            for other in 0..n {
+                plan.touching[table] |= u8::from(plan.schemes[table] & plan.schemes[other] != 0) << other;
+            }
+        }
+        Ok(plan)
+    }
+
+    /// The cells of a row, numbered from 1.
+    fn row(&self, table: usize, row: usize) -> &[u64] {
+        let start = self.starts[table] + (row - 1) * self.widths[table];
+        &self.cells[start..start + self.widths[table]]
+    }
+
+    /// Adds a row to a set, its codes to the merged row.
+    fn add(&self, set: &mut Merged, table: usize, row: usize) {
+        let mut rest = self.schemes[table];
+        for &code in self.row(table, row) {
+            let attribute = rest.trailing_zeros() as usize;
+            let seen = set.attributes >> attribute & 1 == 1;
+            set.codes[attribute] = if !seen || set.codes[attribute] == code { code } else { 0 };
+            rest &= rest - 1;
+        }
+        set.key |= (row as u64) << (8 * table);
+        set.present |= 1 << table;
+        set.attributes |= self.schemes[table];
+    }
+
+    /// The first row of a table, from 0, that has the merged codes at the shared attributes.
+    /// What is compared is worked out once for the whole table.
+    fn first_fit(&self, set: &Merged, table: usize) -> Option<usize> {
+        let scheme = self.schemes[table];
+        let mut shared = scheme & set.attributes;
+        let mut wanted = [(0, 0); 64];
+        let mut number = 0;
+        while shared != 0 {
+            let attribute = shared.trailing_zeros();
+            let code = set.codes[attribute as usize];
+            if code == 0 {
+                return None;
+            }
+            wanted[number] = ((scheme & ((1 << attribute) - 1)).count_ones() as usize, code);
+            number += 1;
+            shared &= shared - 1;
+        }
+        let width = self.widths[table];
+        let cells = &self.cells[self.starts[table]..self.starts[table] + width * self.rows[table]];
+        let (first, code) = wanted[0];
+        let others = &wanted[1..number];
+        cells.chunks_exact(width).position(|row| row[first] == code && others.iter().all(|&(place, code)| row[place] == code))
+    }
+
+    /// Extension. A table that was walked without a fit has none later either, so it is walked once.
+    /// Rows that are not looked at are counted all the same.
+    fn extend(&self, set: &mut Merged) -> u64 {
+        let mut tests = 0;
+        let mut closed = set.present;
+        'rounds: loop {
+            for table in 0..self.n {
+                if closed >> table & 1 == 0 && self.schemes[table] & set.attributes != 0 {
+                    closed |= 1 << table;
+                    if let Some(row) = self.first_fit(set, table) {
+                        tests += row as u64 + 1;
+                        self.add(set, table, row + 1);
+                        continue 'rounds;
+                    }
+                }
+                tests += self.rows[table] as u64;
+            }
+            return tests;
+        }
+    }
+
+    /// A set of one row.
+    fn alone(&self, table: usize, row: usize) -> Merged {
+        let mut set = Merged { key: 0, present: 0, attributes: 0, codes: [0; 64] };
+        self.add(&mut set, table, row);
+        set
+    }
+
+    /// Does a row have the codes of a set that it shares attributes with?
+    fn fits(&self, set: &Merged, table: usize, row: usize) -> bool {
+        let scheme = self.schemes[table];
+        let mut shared = scheme & set.attributes;
+        let cells = self.row(table, row);
+        while shared != 0 {
+            let attribute = shared.trailing_zeros();
+            let code = cells[(scheme & ((1 << attribute) - 1)).count_ones() as usize];
+            if code == 0 || code != set.codes[attribute as usize] {
+                return false;
+            }
+            shared &= shared - 1;
+        }
+        true
+    }
+
+    /// What a trial of a row makes of a set, before it is extended: who stays is a mask of tables, and so is the piece.
+    fn turned(&self, rows: &[u16; 8], table: usize, row: usize) -> Merged {
+        let mut set = self.alone(table, row);
+        let mut staying = 0u8;
+        for other in 0..self.n {
+            if other != table && rows[other] != 0 && self.fits(&set, other, usize::from(rows[other])) {
+                staying |= 1 << other;
+            }
+        }
+        let mut touched = self.touching[table] & staying;
+        while touched != 0 {
+            let next = touched.trailing_zeros() as usize;
+            staying &= !(1 << next);
+            self.add(&mut set, next, usize::from(rows[next]));
+            touched = (touched | self.touching[next]) & staying;
+        }
+        set
+    }
+
+    /// Does a key name a set of rows that are there?
+    fn names(&self, key: u64) -> bool {
+        let rows = set_of(key);
+        key != 0 && (0..8).all(|table| usize::from(rows[table]) <= self.rows[table])
+    }
+
+    /// Writes the padded row of a set, the highest table first, so that the lowest has the last word.
+    fn pad(&self, key: u64, padded: &mut [u64]) {
+        padded[..self.m].fill(0);
+        let rows = set_of(key);
+        for table in (0..self.n).rev().filter(|&table| rows[table] != 0) {
+            let mut rest = self.schemes[table];
+            for &code in self.row(table, usize::from(rows[table])) {
+                padded[rest.trailing_zeros() as usize] = code;
+                rest &= rest - 1;
+            }
+        }
+    }
+}
+
+/// Opens a stream, as `rule::open`.
+pub fn open(catalogue: &Catalogue, cells: &[u64], store: &mut Store) -> Result<(Record, u64), Refusal> {
+    let plan = Plan::checked(catalogue, cells)?;
+    let Some(table) = (0..plan.n).find(|&table| plan.rows[table] > 0) else {
+        return Ok((Record::default(), 0));
+    };
+    if store.records() == 0 {
+        return Err(Refusal::Full);
+    }
+    let mut set = plan.alone(table, 1);
+    let row_tests = plan.extend(&mut set);
+    store.fill(0, set.key);
+    Ok((Record { found: 1, taken: 0, next_row: plan.total }, row_tests))
+}
+
+/// A stream call, as `rule::next`. The row to try is carried along, and the set's key is decoded once.
+pub fn next(catalogue: &Catalogue, cells: &[u64], store: &mut Store, record: &mut Record, budget: u64, padded: &mut [u64]) -> (Outcome, Counts) {
+    let mut counts = Counts::default();
+    let plan = match Plan::checked(catalogue, cells) {
+        Ok(plan) => plan,
+        Err(refusal) => return (Outcome::Refused(refusal), counts),
+    };
+    if misfit(record, store.records(), plan.total).is_some() {
+        return (Outcome::Refused(Refusal::Record), counts);
+    }
+    if padded.len() < plan.m {
+        return (Outcome::Refused(Refusal::Short), counts);
+    }
+    if record.next_row < plan.total {
+        if let Some(outcome) = trials(&plan, store, record, budget, &mut counts) {
+            return (outcome, counts);
+        }
+    }
+    if record.taken == record.found {
+        return (Outcome::Answered(Answer::Finished), counts);
+    }
+    let key = store.keys[record.taken as usize];
+    if !plan.names(key) {
+        return (Outcome::Stopped(Stop::KeyHandedOut), counts);
+    }
+    plan.pad(key, padded);
+    record.taken += 1;
+    record.next_row = 0;
+    (Outcome::Answered(Answer::Set(key)), counts)
+}
+
+/// The trials of one call, all on the same set; none once next row is N.
+fn trials(plan: &Plan, store: &mut Store, record: &mut Record, budget: u64, counts: &mut Counts) -> Option<Outcome> {
+    if budget == 0 {
+        return Some(Outcome::Answered(Answer::Working));
+    }
+    let key = store.keys[record.taken as usize - 1];
+    if !plan.names(key) {
+        return Some(Outcome::Stopped(Stop::KeyTriedOn));
+    }
+    let rows = set_of(key);
+    let (mut table, mut row) = (0, record.next_row as usize);
+    while row >= plan.rows[table] {
+        row -= plan.rows[table];
+        table += 1;
+    }
+    while record.next_row < plan.total {
+        if counts.trials == budget {
+            return Some(Outcome::Answered(Answer::Working));
+        }
+        let mut set = plan.turned(&rows, table, row + 1);
+        let row_tests = plan.extend(&mut set);
+        match file(plan, store, record, set.key) {
+            Err(stop) => return Some(Outcome::Stopped(stop)),
+            Ok(looks) => counts.looks += looks,
+        }
+        counts.trials += 1;
+        counts.row_tests += row_tests;
+        record.next_row += 1;
+        row += 1;
+        while table < plan.n && row == plan.rows[table] {
+            (table, row) = (table + 1, 0);
+        }
+    }
+    None
+}
+
+/// Searches for a key and files it where it is absent; the looks.
+fn file(plan: &Plan, store: &mut Store, record: &mut Record, sought: u64) -> Result<u64, Stop> {
+    let (ending, looks) = search(store, record.found, plan.n, sought)?;
+    if let Ending::Empty { record: last, bit } = ending {
+        let place = record.found as usize;
+        if place >= store.records() {
+            return Err(Stop::Full);
+        }
+        store.fill(place, sought);
+        let links = if bit == 0 { &mut store.left } else { &mut store.right };
+        links[last] = place as u16 + 1;
+        record.found += 1;
+    }
+    Ok(looks)
+}
