@@ -19,3 +19,4 @@ pub mod CatalogueExactly
 pub mod CallExactly
 pub mod RowsExactly
 pub mod WriteExactly
+pub mod Imaged

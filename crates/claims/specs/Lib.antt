@@ -5,3 +5,4 @@ pub mod LoadRefusals
 pub mod CatalogueRefusals
 pub mod WriteRefusals
 pub mod CallRefusals
+pub mod Images
