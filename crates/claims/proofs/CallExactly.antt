@@ -163,6 +163,10 @@ module _ (cat : Catalogue) (cells : List ℕ) (b : ℕ) (q : State) (row : List 
       by (short L g h) = subst Told (met 11 (short-says L g h)) (L, g, h)
       by (works L g h) = atWork L g h (subst (Why cat cells b q) (sym (work-says L g h) ∙ e) (why cat cells row b q))
 
+  -- At work, nothing is refused but by 12 and 14.
+  pub at-work : Good → Fit cat q → cat .m ≤ length row → (r : ℕ) → call cat cells b q row .says ≡ refused r → (r ≡ 12) ⊎ (r ≡ 14)
+  at-work L g h r e = ⊎-elim (λ x. inl (x .0)) (λ x. inr (x .0)) (subst (Why cat cells b q) (sym (work-says L g h) ∙ e) (why cat cells row b q))
+
   pub call-exact : CallExact cat cells b q row
   call-exact =
       record {

@@ -1,38 +1,18 @@
 -- Demand 1's exact conditions hold of open and of a call, in any state. Assumes nothing.
 use Prim.Native.Nat.{ℕ, zero, suc}
-use mathlib.Core.Path.{_≡_, refl, sym, ap, subst, _∙_}
-use mathlib.Core.Logic.{_⊎_, inl, inr}
+use mathlib.Core.Path.{_≡_, refl, ap, _∙_}
 use mathlib.Core.List.{List}
 use lib.ListN.{length}
 use Rattle.tables.specs.declared.Catalogue.{Catalogue}
 use Rattle.store.specs.Store.{storeIn}
 use Rattle.machine.specs.Machine.{State, Says, aSet, finished, working, refused, Called, callFault, unlessMet, work, call, Opened, openFault, opening}
-use Rattle.machine.proofs.WorkLaws.{by-ways, RowBy, work-row}
-use Rattle.machine.proofs.RefusalLaws.{call-free, call-refused, call-works, open-catalogue, opening-refused, opening-says}
+use Rattle.machine.proofs.WorkLaws.{RowBy, work-row}
+use Rattle.machine.proofs.RefusalLaws.{call-refused, open-catalogue, opening-refused, opening-says}
 use Rattle.claims.specs.Demands.{Demand1}
 use Rattle.claims.proofs.Opens.{opens-iff, full-iff}
-
--- What may be refused at work.
-abbrev AtWork : Says → Type 0
-AtWork (refused r) = (r ≡ 12) ⊎ (r ≡ 14)
-AtWork aSet = _≡_ {A = ℕ} 0 0
-AtWork finished = _≡_ {A = ℕ} 0 0
-AtWork working = _≡_ {A = ℕ} 0 0
+use Rattle.claims.proofs.CallExactly.{at-work}
 
 module _ (cat : Catalogue) (cells row : List ℕ) where
-  work-refuses : (b : ℕ) (q : State) → AtWork (work cat cells b q row .says)
-  work-refuses =
-      by-ways cat cells row (λ b q s. AtWork (s .says))
-      (record {
-        ends = λ b q e f. refl;
-        hands = λ b q e f k. refl;
-        lost = λ b q e f k. inr refl;
-        spent = λ q e. refl;
-        fills = λ b q e f. inl refl;
-        fails = λ b q e f. inr refl;
-        goes = λ b q p t l e f ih. ih;
-      })
-
   pub call-row : (b : ℕ) (q : State) → RowBy cat cells row (call cat cells b q row) (call cat cells b q row .says)
   unfolding call
   call-row b q = by (callFault cat (length cells) q row)
@@ -57,8 +37,6 @@ demand1 cat cells =
           let e = opening-refused cat cells k l r (openFault cat (length cells) (storeIn k l r 0)) refl (λ z. h (opening-says cat cells k l r ∙ z)) in
           (ap (λ (x : Opened). x .after) e, ap (λ (x : Opened). x .tests) e);
       refuses = λ b q row h. call-refused cat cells b q row (callFault cat (length cells) q row) refl h;
-      works = λ b q row L g h r e.
-          let w = call-works cat cells b q row (call-free cat (length cells) q row L g h) in
-          subst AtWork (ap (λ (s : Called). s .says) (sym w) ∙ e) (work-refuses cat cells row b q);
+      works = at-work cat cells;
       quiet = λ b q row n. unwritten cat cells row (call cat cells b q row) (call cat cells b q row .says) (call-row cat cells row b q) n;
     }
