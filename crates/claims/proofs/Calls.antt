@@ -75,7 +75,7 @@ module _ (cat : Catalogue) (cells : List ℕ) where
   abbrev pub Said : ℕ → State → ℕ → List ℕ → Called → Says → Type 0
   Said c q b row s aSet = ToSet q s
   Said c q b row s finished = ToEnd q s
-  Said c q b row s working = OnWay q s × (s .trials ≡ b)
+  Said c q b row s working = OnWay q s × (s .trials ≡ b) × (s .after .next ≡ total cat → ⊥)
   Said c q b row s (refused r) = OnWay q s × Refusal c row r
 
   -- What call s from q, with budget b and this row lent, is.
@@ -169,8 +169,8 @@ module _ (cat : Catalogue) (cells : List ℕ) where
         record { trials = omega (arith, x .trials, d .bound .next); next = x .next; taken = omega (arith, x .taken, d .bound .taken) }
     said-on c b row q p t l s g d finished x =
         record { trials = omega (arith, x .trials, d .bound .next); next = x .next; taken = x .taken ∙ d .bound .taken; all = x .all }
-    said-on c b row q p t l s g d working (x, y) =
-        (record { next = omega (arith, x .next, d .bound .next); taken = x .taken ∙ d .bound .taken }, ap suc y)
+    said-on c b row q p t l s g d working (x, y, z) =
+        (record { next = omega (arith, x .next, d .bound .next); taken = x .taken ∙ d .bound .taken }, ap suc y, z)
     said-on c b row q p t l s g d (refused r) (x, y) = (record { next = omega (arith, x .next, d .bound .next); taken = x .taken ∙ d .bound .taken }, y)
 
     went-on : (c b : ℕ) (row : List ℕ) (q p : State) (t l : ℕ) (s : Called) (g : Live cat cells c q) → Did cat cells c q g p t l → Went c p b row s
@@ -209,7 +209,7 @@ module _ (cat : Catalogue) (cells : List ℕ) where
                 said = record { trials = omega arith; next = refl; taken = refl };
               };
           lost = λ b q e f k g. let (live, l) = live-set c q g f in absurd (clash (named-at c q live (q .taken) l) k);
-          spent = λ q e g. stood c 0 row q working g refl (record { next = omega arith; taken = refl }, refl);
+          spent = λ q e g. stood c 0 row q working g refl (record { next = omega arith; taken = refl }, refl, e);
           fills = λ b q e f g.
               let (live, l) = live-trial c q g e in
               let m = subst (Comes cat cells c q live) f (tried cat cells L c q live l) in

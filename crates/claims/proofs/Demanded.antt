@@ -30,7 +30,7 @@ use Rattle.claims.proofs.Calls.{takenKeys, Sound, ToSet, ToEnd, Said, W
 use Rattle.claims.proofs.Opens.{Begins, begins}
 use Rattle.claims.proofs.Exact.{call-row}
 use Rattle.claims.proofs.Steps.{work-split, run-moves}
-use Rattle.claims.proofs.Runs.{run, ended, one, each, still, handed-taken, taken-only, found-once, taken-once, all-handed, gap-trials, sum-bounded, end-no-more, drain}
+use Rattle.claims.proofs.Runs.{run, ended, one, each, still, handed-taken, taken-only, found-once, taken-once, all-handed, gap-trials, sum-bounded, end-no-more, drain, drain-fast}
 use Rattle.claims.proofs.Holding.{sound-holds, run-held}
 
 module _ (cat : Catalogue) (cells : List ℕ) (L : Lawful cat (length cells)) where
@@ -202,6 +202,7 @@ module _ (cat : Catalogue) (cells : List ℕ) (L : Lawful cat (length cells)) wh
           more-never = more-never;
           full-exactly = λ gs p h. (full-more gs, λ mo. ⊎-elim (λ f. absurd (more-never gs mo f)) (λ f. f) (drained gs p h));
           drains = drained;
+          drains-fast = λ gs p h. drain-fast cat cells L c gs q (o .sound) p (omega (arith, o .taken));
         }
 
 pub demands : (cat : Catalogue) (cells : List ℕ) → Demands cat cells

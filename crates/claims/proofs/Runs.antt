@@ -21,7 +21,7 @@ use Rattle.disjunction.proofs.KeepingLaws.{none-jcc}
 use Rattle.rows.proofs.WorldLaws.{world-symmetric, rows-total}
 use Rattle.machine.specs.Machine.{State, keyAt, Says, aSet, finished, working, refused, Called, call}
 use Rattle.machine.specs.Runs.{Given, runOf, endedOf, keysIn, handed, sum}
-use Rattle.claims.specs.Demands.{Answered, Closes, Able}
+use Rattle.claims.specs.Demands.{Answered, Closes, Able, Patient}
 use Rattle.claims.proofs.Live.{W, listed, Live}
 use Rattle.claims.proofs.Calls.{takenKeys, Sound, ToSet, ToEnd, OnWay, Said, Went, record-maximal, called}
 
@@ -201,5 +201,33 @@ module _ (cat : Catalogue) (cells : List ℕ) where
             (ih
             (let t : s .after .taken * (total cat + 1) ≡ q .taken * (total cat + 1) = ap (λ (n : ℕ). n * (total cat + 1)) (z .0 .taken) in
             omega (arith, z .0 .next, z .1, able .0)))
+        by ih (refused r) e (z, inl w) = inr (s, List·Memᴰ·head refl, e ∙ ap refused (w .0))
+        by ih (refused r) e (z, inr w) = absurd (omega (arith, w .1, able .1))
+
+    -- A stream that is sound has taken no more records than there are, and its next row is one of N.
+    taken-le : (q : State) → Sound cat cells c q → (q .taken ≤ c) × (q .next ≤ total cat)
+    taken-le q (inl g) = (omega (arith, g .going .taken-le, g .long, g .within), omega (arith, g .going .next-le, rows-total cat cells))
+    taken-le q (inr g) = (omega (arith, g .taken), omega (arith, g .next))
+
+    -- With budgets of N every call closes, so each takes a record, tells the end or is full.
+    pub drain-fast : (gs : List Given) (q : State) → Sound cat cells c q → Patient cat gs → c < q .taken + length gs → Ends (run gs q)
+    unfolding runOf
+    drain-fast [] q x p h = absurd (omega (arith, taken-le q x .0))
+    drain-fast (g ∷ gs) q x p h = by (λ l. drain-fast gs (s .after) (y .sound) (λ a m. p a (List·Memᴰ·tail m)) l) (s .says) refl (y .said)
+      where
+        s : Called
+        s = one g q
+
+        y : Went cat cells c q (g .budget) (g .row) s
+        y = goes g q x
+
+        able : (total cat ≤ g .budget) × (cat .m ≤ length (g .row))
+        able = p g (List·Memᴰ·head refl)
+
+        by : (c < s .after .taken + length gs → Ends (run gs (s .after)))
+            → (a : Says) → s .says ≡ a → Said cat cells c q (g .budget) (g .row) s a → Ends (s ∷ run gs (s .after))
+        by ih aSet e z = ends-later s (run gs (s .after)) (ih (omega (arith, z .taken)))
+        by ih finished e z = inl (s, List·Memᴰ·head refl, e)
+        by ih working e z = absurd (z .2 (omega (arith, z .0 .next, z .1, able .0, taken-le (s .after) (y .sound) .1)))
         by ih (refused r) e (z, inl w) = inr (s, List·Memᴰ·head refl, e ∙ ap refused (w .0))
         by ih (refused r) e (z, inr w) = absurd (omega (arith, w .1, able .1))

@@ -56,6 +56,10 @@ Closes a = (a ≡ aSet) ⊎ (a ≡ finished)
 abbrev pub Able : Catalogue → List Given → Type 0
 Able cat gs = (g : Given) → List·Memᴰ g gs → (0 < g .budget) × (cat .m ≤ length (g .row))
 
+-- Calls that never answer *working*: each may make all the trials up to the next set, and lends a row that is long enough.
+abbrev pub Patient : Catalogue → List Given → Type 0
+Patient cat gs = (g : Given) → List·Memᴰ g gs → (total cat ≤ g .budget) × (cat .m ≤ length (g .row))
+
 -- The rule's steps that calls have made: trials, and sets handed out.
 abbrev pub made : List Called → ℕ
 made l = sum (λ s. s .trials) l + length (handed l)
@@ -153,6 +157,9 @@ module _ (cat : Catalogue) (cells : List ℕ) where
         → Answered (refused 12) (runOf step gs q) ↔ MoreThan (worldOf cat cells) c
     -- (a drain ends: so many calls that can get on are enough)
     pub drains : (gs : List Given) → Able cat gs → c * (total cat + 1) < length gs
+        → Answered finished (runOf step gs q) ⊎ Answered (refused 12) (runOf step gs q)
+    -- (with budgets of N, one call more than there are records: the listing program's bound)
+    pub drains-fast : (gs : List Given) → Patient cat gs → c < length gs
         → Answered finished (runOf step gs q) ⊎ Answered (refused 12) (runOf step gs q)
 
 -- ---- a longer store
