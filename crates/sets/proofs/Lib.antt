@@ -1,4 +1,5 @@
 pub mod MatchLaws
+pub mod CursorLaws
 pub mod MergedLaws
 pub mod RowTestLaws
 pub mod Rounds

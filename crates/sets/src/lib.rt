@@ -40,7 +40,7 @@ fn fits_merged(cells: &[u64], scheme: u64, start: usize, shared: u64, merged: &[
         if merged[a] != code {
             return false;
         }
-        rest = words::without(rest, a);
+        rest = words::without_lowest(rest);
     }
     true
 }
@@ -60,19 +60,21 @@ fn join_code(seen: bool, old: u64, code: u64) -> u64
 }
 
 // Merges the row of this scheme at `start` into the merged row of a set with the attributes `attrs`.
-// The set's rows are read once in an extension, and not once for each row tested.
+// The set's rows are read once in an extension, and not once for each row tested; a row's cells lie by rising attribute, and are read one after the other.
 fn merge_row(cells: &[u64], scheme: u64, start: usize, attrs: u64, merged: &mut [u64; 64])
     requires { ⌜ (start + ones scheme ≤ length (now cells)) × (length (now merged) ≡ mergedLength) ⌝ }
     ensures { λ _. ⌜ Joined (now (cells .entry)) scheme start attrs (now (merged .entry)) (now (merged .exit)) ⌝ }
 {
     let mut rest = scheme;
+    let mut place = start;
     while rest != 0 {
         let a = words::lowest(rest);
-        let code = rows::code_at(cells, scheme, start, a);
+        let code = cells[place];
         let seen = words::bit_of(attrs, a);
         let old = merged[a];
         merged[a] = join_code(seen, old, code);
-        rest = words::without(rest, a);
+        rest = words::without_lowest(rest);
+        place = place + 1;
     }
 }
 

@@ -1,4 +1,5 @@
--- The laws of a word's bits: what tells two words apart, the bits of `&` and `|`, the lowest set bit, a bit taken away. Assumes nothing.
+-- The laws of a word's bits: what tells two words apart, the bits of `&` and `|`, the lowest set bit, a bit taken away, the lowest one by a mask, and
+-- how many ones are left as they go one after the other. Assumes nothing.
 use Prim.Native.Nat.{ℕ, zero, suc, _+_, _-_, _*_, _/_, _%_, _^_, _≤_, _<_}
 use mathlib.Core.Path.{_≡_, refl, sym, ap, ap₂, subst, _∙_}
 use mathlib.Core.Bool.{Bool, true, false, not, _&&_, _||_, true≢false}
@@ -6,12 +7,12 @@ use mathlib.Core.Logic.{_≢_, ⊎-elim}
 use native.Mathlib.Omega.{arith}
 use native.Mathlib.Decide.{decLt}
 use native.Mathlib.Numerals.{add-one}
-use native.Mathlib.Nat.{mod-lt, zero-div, pow-suc, pow-zero, mul-suc, mul-zero, suc-mul, div-eq-of-lt, div-self, lt-of-lt-of-le}
+use native.Mathlib.Nat.{mod-lt, min-zero, zero-div, pow-suc, pow-zero, mul-suc, mul-zero, suc-mul, div-eq-of-lt, div-self, lt-of-lt-of-le}
 use lib.Arith.{lt-one}
-use lib.Bits.{bitAnd, bitOr, and-shr, and-mod, and-lt, or-shr, or-mod}
-use lib.Count.{trailingZeros, under}
+use lib.Bits.{bitAnd, bitOr, and-step, and-zero-l, and-self, and-block, and-shr, and-mod, and-lt, or-shr, or-mod}
+use lib.Count.{ones, ones-step, ones-cat, ones-le, trailingZeros, under}
 use lib.Dec.{eqb}
-use lib.Pow.{pow-add, pow-pos, pow-mono, split, high, low, field, mod-mod-pow, recompose, shr-shr, shr-lt}
+use lib.Pow.{pow-add, pow-pos, ones-lt, pow-mono, split, high, low, field, mod-mod-pow, recompose, shr-shr, shr-lt}
 use borrow.Author.Tests.{eqb-true, eq-eqb, ne-eqb}
 use Rattle.laws.specs.Tests.{any}
 use Rattle.laws.proofs.TestLaws.{which, clash, any-some, any-of}
@@ -199,15 +200,19 @@ module _ (k a : ℕ) (h : bitOf k a ≡ true) where
       ∙ ap (λ (x : ℕ). bitOf x d) (ap (λ (x : ℕ). x % 2 ^ a) (less-bit k a h .1) ∙ low (k / 2 ^ a / 2 * 2) a (mod-lt k (pow-pos a)))
       ∙ bit-low k a d l
 
+  -- Above bit a the word stays.
+  above-kept : (k - 2 ^ a) / 2 ^ a / 2 ≡ k / 2 ^ a / 2
+  above-kept =
+      let half : k / 2 ^ a / 2 * 2 / 2 ≡ k / 2 ^ a / 2 = omega arith in
+      ap (λ (x : ℕ). x / 2) (ap (λ (x : ℕ). x / 2 ^ a) (less-bit k a h .1) ∙ high (k / 2 ^ a / 2 * 2) a (mod-lt k (pow-pos a))) ∙ half
+
   kept-above : (d : ℕ) → a < d → bitOf (k - 2 ^ a) d ≡ bitOf k d
   kept-above d l =
       let e : d ≡ a + suc (d - suc a) = omega arith in
-      let half : k / 2 ^ a / 2 * 2 / 2 ≡ k / 2 ^ a / 2 = omega arith in
-      let top : (k - 2 ^ a) / 2 ^ a ≡ k / 2 ^ a / 2 * 2 = ap (λ (x : ℕ). x / 2 ^ a) (less-bit k a h .1) ∙ high (k / 2 ^ a / 2 * 2) a (mod-lt k (pow-pos a)) in
       ap (bitOf (k - 2 ^ a)) e
       ∙ sym (bit-high (k - 2 ^ a) a (suc (d - suc a)))
       ∙ later-bit ((k - 2 ^ a) / 2 ^ a) (d - suc a)
-      ∙ ap (λ (x : ℕ). bitOf x (d - suc a)) (ap (λ (x : ℕ). x / 2) top ∙ half)
+      ∙ ap (λ (x : ℕ). bitOf x (d - suc a)) above-kept
       ∙ sym (later-bit (k / 2 ^ a) (d - suc a))
       ∙ bit-high k a (suc (d - suc a))
       ∙ ap (bitOf k) (sym e)
@@ -218,6 +223,87 @@ module _ (k a : ℕ) (h : bitOf k a ≡ true) where
       go : Dec (d < a) → bitOf (k - 2 ^ a) d ≡ bitOf k d
       go (yes l) = kept-below d l
       go (no g) = kept-above d (omega (arith, n))
+
+-- ---- the lowest bit taken away by a mask
+
+-- Below the lowest set bit there is nothing.
+pub lowest-low : (w k a : ℕ) → LowestBit w k a → k % 2 ^ a ≡ 0
+lowest-low w k a x =
+    bits-eq a (k % 2 ^ a) 0 (mod-lt k (pow-pos a)) (pow-pos a) (λ d l. bit-low k a d l ∙ x .below d l ∙ sym (zero-bit d))
+
+-- A word and its even part have the even part in common.
+even-part : (q : ℕ) → bitAnd q (q / 2 * 2) ≡ q / 2 * 2
+even-part q =
+    let e : q / 2 * 2 % 2 ≡ 0 = omega arith in
+    let f : q / 2 * 2 / 2 ≡ q / 2 = omega arith in
+    and-step q (q / 2 * 2) ∙ rw (e, f, and-self (q / 2), min-zero (q % 2)) (omega arith)
+
+-- The word less 1 has the bits above the lowest one, not that one, and all below it.
+pub masked-lowest : (w k a : ℕ) → LowestBit w k a → bitAnd k (k - 1) ≡ k - 2 ^ a
+masked-lowest w k a x =
+    let q : ℕ = k / 2 ^ a in
+    let z : k % 2 ^ a ≡ 0 = lowest-low w k a x in
+    let whole : k ≡ q * 2 ^ a + 0 = omega (arith, split k a) in
+    let less : k - 1 ≡ q / 2 * 2 * 2 ^ a + (2 ^ a - 1) = omega (arith, less-bit k a (x .itself), pow-pos a) in
+    let gone : q / 2 * 2 * 2 ^ a + 0 ≡ k - 2 ^ a = omega (arith, less-bit k a (x .itself)) in
+    ap₂ bitAnd whole less
+    ∙ and-block a q (q / 2 * 2) 0 (2 ^ a - 1) (pow-pos a) (ones-lt a)
+    ∙ ap₂ (λ (m n : ℕ). m * 2 ^ a + n) (even-part q) (and-zero-l (2 ^ a - 1))
+    ∙ gone
+
+-- ---- ones
+
+ones-none : ones 0 ≡ 0
+ones-none = omega (arith, ones-le 0 0 (omega arith))
+
+ones-halves : (k a : ℕ) → ones k ≡ ones (k / 2 ^ a) + ones (k % 2 ^ a)
+ones-halves k a = ap ones (sym (split k a)) ∙ ones-cat a (k / 2 ^ a) (k % 2 ^ a) (mod-lt k (pow-pos a))
+
+-- A word less a bit that it has: there is one 1 fewer.
+pub ones-less : (k a : ℕ) → bitOf k a ≡ true → ones (k - 2 ^ a) + 1 ≡ ones k
+unfolding bitOf
+ones-less k a h =
+    let q : ℕ = k / 2 ^ a in
+    let odd : q % 2 ≡ 1 = eqb-true (q % 2) 1 h in
+    let even : q / 2 * 2 % 2 ≡ 0 = omega arith in
+    let half : ones (q / 2 * 2 / 2) ≡ ones (q / 2) = ap ones (omega arith) in
+    let e : ones (k - 2 ^ a) ≡ ones (q / 2 * 2) + ones (k % 2 ^ a) = ap ones (less-bit k a h .1) ∙ ones-cat a (q / 2 * 2) (k % 2 ^ a) (mod-lt k (pow-pos a)) in
+    omega (arith, e, ones-halves k a, ones-step q, ones-step (q / 2 * 2), half, odd, even)
+
+-- ---- the set bits one after the other
+
+-- What is left of a word whose set bits are gone through from the lowest: from its own lowest on it is the word.
+abbrev pub LeftOf : ℕ → ℕ → Type 0
+LeftOf whole rest = (v b : ℕ) → LowestBit v rest b → rest / 2 ^ b ≡ whole / 2 ^ b
+
+-- The lowest bit of what is left lies above the one that was taken.
+next-above : (w k a : ℕ) → LowestBit w k a → (v b : ℕ) → LowestBit v (k - 2 ^ a) b → a < b
+next-above w k a x v b y = go (decLt a b) (decLt b a)
+  where
+    go : Dec (a < b) → Dec (b < a) → a < b
+    go (yes l) m = l
+    go (no f) (yes m) = absurd (clash (y .itself) (kept-below k a (x .itself) b m ∙ x .below b m))
+    go (no f) (no g) =
+        let e : b ≡ a = omega arith in
+        absurd (clash (y .itself) (rw e (bit-gone k a (x .itself))))
+
+-- A shift past bit a.
+past : (n a b : ℕ) → a < b → n / 2 ^ b ≡ n / 2 ^ a / 2 / 2 ^ (b - (a + 1))
+past n a b l = shift n (a + 1) b (omega arith) ∙ ap (λ (q : ℕ). q / 2 ^ (b - (a + 1))) (sym (shr-shr n a 1))
+
+module _ (whole rest w a : ℕ) (k : LeftOf whole rest) (x : LowestBit w rest a) where
+  -- The ones that are gone through are those below the next.
+  pub left-ones : ones (whole % 2 ^ a) + ones rest ≡ ones whole
+  left-ones =
+      let z : ones (rest % 2 ^ a) ≡ 0 = ap ones (lowest-low w rest a x) ∙ ones-none in
+      omega (arith, z, ap ones (k w a x), ones-halves whole a, ones-halves rest a)
+
+  pub left-next : LeftOf whole (rest - 2 ^ a)
+  left-next v b y =
+      let l : a < b = next-above w rest a x v b y in
+      past (rest - 2 ^ a) a b l
+      ∙ ap (λ (q : ℕ). q / 2 ^ (b - (a + 1))) (above-kept rest a (x .itself) ∙ ap (λ (q : ℕ). q / 2) (k w a x))
+      ∙ sym (past whole a b l)
 
 -- ---- one bit alone
 
