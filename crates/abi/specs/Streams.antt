@@ -16,16 +16,19 @@ use Rattle.abi.specs.Calls.{tooFewWords, short}
 
 -- ---- a record and a result in words
 
+-- How many words a stream record has.
 abbrev pub recordWords : ℕ
 recordWords = 3
 
+-- How many words a result has.
 abbrev pub resultWords : ℕ
 resultWords = 4
 
--- Found, taken, next row: of a stream record, and of a state of the machine.
+-- Found, taken, next row of a stream record.
 abbrev pub wordsOfRecord : StreamRecord → List ℕ
 wordsOfRecord s = s .found ∷ (s .taken ∷ (s .«next_row» ∷ []))
 
+-- The same of a state of the machine.
 abbrev pub wordsOfState : State → List ℕ
 wordsOfState q = q .store .found ∷ (q .taken ∷ (q .next ∷ []))
 
@@ -33,10 +36,11 @@ wordsOfState q = q .store .found ∷ (q .taken ∷ (q .next ∷ []))
 abbrev pub recordIn : List ℕ → StreamRecord
 recordIn words = record { found = getD words 0 0; taken = getD words 1 0; «next_row» = getD words 2 0 }
 
--- Key, trials, row tests, looks: of an answer, and of a call of the machine.
+-- Key, trials, row tests, looks of an answer.
 abbrev pub resultOf : StepAnswer → List ℕ
 resultOf r = r .key ∷ (r .trials ∷ (r .tests ∷ (r .looks ∷ [])))
 
+-- The same of a call of the machine.
 abbrev pub resultOfCall : Called → List ℕ
 resultOfCall s = s .key ∷ (s .trials ∷ (s .tests ∷ (s .looks ∷ [])))
 
@@ -55,10 +59,11 @@ openedNumber o = o .tests * 32 + o .refusal
 
 -- ---- the calls
 
--- The lent words are too few: of a catalogue or a record; of a result too.
+-- The lent words are too few: those of a catalogue or of a record.
 unfoldable pub openShort : List ℕ → List ℕ → Bool
 openShort catalogue words = short catalogue || ltb (length words) recordWords
 
+-- The same of a stream call, which lends a result too.
 unfoldable pub nextShort : List ℕ → List ℕ → List ℕ → Bool
 nextShort catalogue words result = openShort catalogue words || ltb (length result) resultWords
 

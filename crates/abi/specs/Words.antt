@@ -5,6 +5,7 @@ use lib.ListN.{getD}
 use Rattle.laws.specs.Lists.{part, tab}
 use Rattle.tables.specs.declared.Catalogue.{Catalogue}
 
+-- How many words a catalogue has: m, n, eight schemes, eight row counts.
 abbrev pub catalogueWords : ℕ
 catalogueWords = 18
 

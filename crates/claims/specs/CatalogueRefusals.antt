@@ -34,6 +34,7 @@ pub record ComesTo (cat : Catalogue) (lent t : ℕ) : Type 0 where
   pub there : t < cat .n
   pub before : (u : ℕ) → u < t → GoodHead cat lent u
 
+-- Of a catalogue, when so many cells are lent; 0 stands for no refusal.
 pub record CatalogueExact (cat : Catalogue) (lent : ℕ) : Type 0 where
   pub refusal-4 : (catalogueFault cat lent ≡ 4) ↔ SizesOut cat
   pub refusal-5 : (catalogueFault cat lent ≡ 5) ↔ ((t : ℕ) × ComesTo cat lent t × BadScheme cat t)

@@ -22,6 +22,7 @@ use Rattle.machine.specs.Runs.{Given, runOf, endedOf, handed, sum, moves, looks
 
 -- ---- demand 1: the refusals, "by the exact conditions above"
 
+-- Of any stream whose open is `begin` and whose call is `step`, on these tables.
 pub record Demand1 (cat : Catalogue) (cells : List ℕ) (begin : List ℕ → List ℕ → List ℕ → Opened) (step : ℕ → State → List ℕ → Called) : Type 0 where
   -- Open refuses nothing exactly where the catalogue has no fault and the store, if there is a row, a record;
   pub opens : (keys left right : List ℕ)
@@ -89,6 +90,7 @@ joined s u =
       row = u .row;
     }
 
+-- Call u counts only where call s has spent its budget: any other answer ends the call.
 abbrev pub goesOn : Says → Called → Called → Called
 goesOn working s u = joined s u
 goesOn aSet s u = s
@@ -98,6 +100,7 @@ goesOn (refused r) s u = s
 module _ (cat : Catalogue) (cells : List ℕ) where
   -- ---- demand 2
 
+  -- Of a stream whose call is `step`, from the state q that open gave; the calls are a list of `Given`.
   pub record Demand2 (step : ℕ → State → List ℕ → Called) (q : State) : Type 0 where
     -- "Cut short, it has handed out only such sets,"
     pub only : (gs : List Given) (k : ℕ) → List·Memᴰ k (handed (runOf step gs q)) → (T : List ℕ) × Maximal (worldOf cat cells) T × (k ≡ keyOf bitsPerRow T)
@@ -176,6 +179,7 @@ pub record Seen : Type 0 where
   pub next : ℕ
   pub row : List ℕ
 
+-- What is seen of one call.
 abbrev pub seen : Called → Seen
 seen s =
     record {
@@ -190,6 +194,7 @@ seen s =
       row = s .row;
     }
 
+-- What is seen of calls, in their order.
 unfoldable pub sight : List Called → List Seen
 sight [] = []
 sight (s ∷ l) = seen s ∷ sight l
@@ -229,6 +234,7 @@ module _ (cat : Catalogue) (cells : List ℕ) where
       (keys left right : List ℕ) → Lawful cat (length cells)
       → (opening cat cells keys left right .refusal ≡ 12) ↔ ((roomIn (storeIn keys left right 0) ≡ 0) × MoreThan (worldOf cat cells) 0)
 
+  -- Any two stores that open takes, the second at least as long as the first.
   abbrev pub Longers : Type 0
   Longers =
       (keys left right keys' left' right' : List ℕ) → opening cat cells keys left right .refusal ≡ 0 → opening cat cells keys' left' right' .refusal ≡ 0

@@ -13,11 +13,11 @@ use Rattle.image.specs.Edges.{NumberEdges, ImageEdges}
 use Rattle.machine.specs.Machine.{Says, aSet, finished, Called, call, opening}
 use Rattle.machine.specs.Runs.{Given, runOf, handed}
 
--- The calls of a stream on what an image loads to, in a store of four records that starts as zeros, each with a budget of two trials and a padded
--- row of one cell.
+-- A call with a budget of two trials, which lends a padded row of one cell.
 abbrev pub twoTrials : Given
 twoTrials = record { budget = 2; row = 0 ∷ [] }
 
+-- The calls of a stream on what an image loads to, in a store of four records that starts as zeros.
 unfoldable pub callsOn : List ℕ → List Given → List Called
 callsOn image gs =
     let cat = scanOf image mostCells .catalogue in
@@ -33,6 +33,7 @@ saysIn (s ∷ l) = s .says ∷ saysIn l
 abbrev pub pair : Catalogue
 pair = record { m = 1; n = 2; schemes = 1 ∷ 1 ∷ replicate 6 0; rows = 1 ∷ 1 ∷ replicate 6 0 }
 
+-- The list.
 pub record Edges : Type 0 where
   pub numbers : NumberEdges
   pub images : ImageEdges

@@ -36,6 +36,7 @@ LoadedDemands =
     × Demand2 (r .catalogue) cells (call (r .catalogue) cells) (stateOf (o .stream) ks ls rs)
     × Demand3 (r .catalogue) cells (call (r .catalogue) cells) (roomIn (storeIn keys left right 0)) (stateOf (o .stream) ks ls rs)
 
+-- Both ways between an image and its tables.
 pub record RoundTrips : Type 0 where
   -- What a load found good, a write puts back byte for byte, if the output is long enough; bytes behind it stay.
   pub loaded : (s lent cells out wrote : List ℕ) (r : Loaded) (w : Written) → Bytes s → Loads s lent r cells → r .verdict ≡ Good

@@ -30,9 +30,11 @@ EndsInside s i = (k : ℕ) × (k < mostBytes) × GoesOn s i k × (length s ≤ i
 abbrev pub NotShortest : List ℕ → ℕ → Type 0
 NotShortest s i = (k : ℕ) × (0 < k) × (k < mostBytes) × GoesOn s i k × (i + k < length s) × (getD s (i + k) 0 ≡ 0)
 
+-- "Its ninth byte has the top bit set": nine bytes have.
 abbrev pub TooLong : List ℕ → ℕ → Type 0
 TooLong s i = GoesOn s i mostBytes
 
+-- Of the number that is due at place i.
 pub record NumberExact (s : List ℕ) (i : ℕ) : Type 0 where
   pub ends : (decode s i ≡ NumberFault 1) ↔ EndsInside s i
   pub not-good : (decode s i ≡ NumberFault 2) ↔ (NotShortest s i ⊎ TooLong s i)

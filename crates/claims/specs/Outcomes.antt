@@ -19,6 +19,7 @@ use Rattle.stream.specs.Promises.{stateOf, calledOf, openedOf}
 use Rattle.harbour.specs.declared.NextAnswer.{NextAnswer}
 use Rattle.harbour.specs.Answers.{withRecord}
 
+-- One field for each public call: two outcomes that meet its promise are one.
 pub record OneOutcome : Type 0 where
   pub load : (s lent : List ℕ) (r r′ : Loaded) (after after′ : List ℕ) → Loads s lent r after → Loads s lent r′ after′ → (r ≡ r′) × (after ≡ after′)
   pub write : (cat : Catalogue) (cells lent : List ℕ) (r r′ : Written) (after after′ : List ℕ)

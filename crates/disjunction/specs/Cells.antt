@@ -28,6 +28,7 @@ module _ (C : Cells) where
   unfoldable pub sharing : ℕ → ℕ → Bool
   sharing t u = any (C .m) (λ a. C .has t a && C .has u a)
 
+  -- What its yes says: there is such an attribute.
   abbrev pub Sharing : ℕ → ℕ → Type 0
   Sharing t u = (a : ℕ) × (a < C .m) × (C .has t a ≡ true) × (C .has u a ≡ true)
 
@@ -35,9 +36,11 @@ module _ (C : Cells) where
   unfoldable pub matching : ℕ → ℕ → ℕ → ℕ → Bool
   matching t r u q = all (C .m) (λ a. not (C .has t a && C .has u a) || same (C .cell t r a) (C .cell u q a))
 
+  -- What its yes says, attribute by attribute; a code above 0 is a value.
   abbrev pub Matching : ℕ → ℕ → ℕ → ℕ → Type 0
   Matching t r u q = (a : ℕ) → a < C .m → C .has t a ≡ true → C .has u a ≡ true → (0 < C .cell t r a) × (C .cell t r a ≡ C .cell u q a)
 
+  -- The tables of the rule that these cells make: who touches whom, and which rows fit.
   abbrev pub tables : Tables
   tables = record { n = C .n; count = C .count; touches = sharing; fits = matching }
 

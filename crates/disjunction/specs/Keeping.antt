@@ -17,6 +17,7 @@ sameDec (yes e) (yes f) = yes (ap₂ (λ (z : ℕ) (zs : List ℕ). z ∷ zs) e 
 sameDec (yes e) (no g) = no (λ h. g (tail-eq-of-cons-eq h))
 sameDec (no g) d = no (λ h. g (head-eq-of-cons-eq h))
 
+-- Two lists of row numbers are equal, or they are not.
 unfoldable pub sets-discrete : Discrete (List ℕ)
 unfolding sameDec
 sets-discrete [] [] = yes refl
@@ -78,11 +79,12 @@ module _ (W : Tables) where
   unfoldable pub listTests : State → ℕ
   listTests q = cond (eqb (q .next) (length (rows W))) 0 (trialNow q .tests)
 
-  -- The state after k steps, and their row tests.
+  -- The state after k steps.
   unfoldable pub listMoves : ℕ → State → State
   listMoves zero q = q
   listMoves (suc k) q = listMoves k (listMove q)
 
+  -- The row tests of k steps.
   unfoldable pub testsIn : ℕ → State → ℕ
   testsIn zero q = 0
   testsIn (suc k) q = listTests q + testsIn k (listMove q)

@@ -46,10 +46,11 @@ module _ (W : Tables) where
 
 -- ---- "Row test: may this row be added?"
 
--- Table t has a row in T; it has none.
+-- Table t has a row in T.
 unfoldable pub member : List ℕ → ℕ → Bool
 member T t = ltb 0 (at T t)
 
+-- "Its table is absent": table t has no row in T.
 unfoldable pub absent : List ℕ → ℕ → Bool
 absent T t = eqb (at T t) 0
 
@@ -58,6 +59,7 @@ module _ (W : Tables) where
   unfoldable pub near : List ℕ → Place → Bool
   near T p = any (W .n) (λ u. member T u && W .touches u (p .table))
 
+  -- What its yes says: some member touches it.
   abbrev pub Near : List ℕ → Place → Type 0
   Near T p = (u : ℕ) × Member T u × (W .touches u (p .table) ≡ true)
 
@@ -65,6 +67,7 @@ module _ (W : Tables) where
   unfoldable pub agrees : List ℕ → Place → Bool
   agrees T p = all (W .n) (λ u. absent T u || W .fits u (at T u) (p .table) (p .row))
 
+  -- What its yes says, member by member.
   abbrev pub Agrees : List ℕ → Place → Type 0
   Agrees T p = (u : ℕ) → Member T u → W .fits u (at T u) (p .table) (p .row) ≡ true
 
@@ -72,6 +75,7 @@ module _ (W : Tables) where
   unfoldable pub rowTest : List ℕ → Place → Bool
   rowTest T p = absent T (p .table) && near T p && agrees T p
 
+  -- What the yes of a row test says.
   pub record Addable (T : List ℕ) (p : Place) : Type 0 where
     pub absent : at T (p .table) ≡ 0
     pub near : Near T p
@@ -132,6 +136,7 @@ module _ (W : Tables) where
   unfoldable pub joins : List ℕ → Place → Bool
   joins E p = absent E (p .table) && near W E p
 
+  -- What its yes says.
   pub record Joinable (E : List ℕ) (p : Place) : Type 0 where
     pub absent : at E (p .table) ≡ 0
     pub near : Near W E p

@@ -35,6 +35,7 @@ firstTable = 3
 abbrev pub noCatalogue : Catalogue
 noCatalogue = record { m = 0; n = 0; schemes = replicate 8 0; rows = replicate 8 0 }
 
+-- What a load gives that is refused by k at place p.
 abbrev pub refused : ℕ → ℕ → Loaded
 refused k p = record { verdict = Refused k p; catalogue = noCatalogue }
 
@@ -45,6 +46,7 @@ fieldAt s i low high k =
     (λ x n. cond (outside low high x) (FieldFault k i) (Value x n))
     (λ f. FieldFault f i)
 
+-- Go on with the field's value and the place behind it, or with its refusal.
 abbrev pub onField : Field → (ℕ → ℕ → Loaded) → Loaded
 onField (Value x n) go = go x n
 onField (FieldFault k p) go = refused k p
@@ -75,6 +77,7 @@ tableAt s room m used i =
     (λ scheme n. cond (badScheme m scheme) (TableFault 5 i) (countAt s room scheme used n))
     (λ f. TableFault f i)
 
+-- Go on with the table's entry, or with its refusal.
 abbrev pub onEntry : {A : Type 0} → Entry → (ℕ → ℕ → ℕ → ℕ → A) → (ℕ → ℕ → A) → A
 onEntry (Table scheme rows used n) go refuse = go scheme rows used n
 onEntry (TableFault k p) go refuse = refuse k p
@@ -96,6 +99,7 @@ scanOf s room =
     onField (fieldAt s j 1 mostTables 4) (λ n k.
     tablesFrom n s room m n 0 0 (replicate 8 0) (replicate 8 0) k)))
 
+-- Go on from the place that a walk came to; a walk that was refused gives nothing.
 abbrev pub onEnd : {A : Type 0} → Walk → (ℕ → List A) → List A
 onEnd (To n) go = go n
 onEnd (Fault k p) go = []

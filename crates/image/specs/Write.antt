@@ -82,6 +82,7 @@ writtenOf (suc k) len = Refused (suc k)
 unfoldable pub written : Catalogue → List ℕ → ℕ → Written
 written cat cells room = writtenOf (firstOf (writeFault cat cells) (lengthFault cat cells room)) (length (imageOf cat cells))
 
+-- "A refusal writes nothing. Success gives the length; bytes behind it stay."
 abbrev pub bytesAfter : Written → List ℕ → List ℕ → List ℕ
 bytesAfter (Length n) new old = put new old
 bytesAfter (Refused k) new old = old

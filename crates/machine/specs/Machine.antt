@@ -27,6 +27,7 @@ pub record State : Type 0 where
   pub taken : ℕ
   pub next : ℕ
 
+-- The state of the three lists and the three numbers.
 abbrev pub stateIn : List ℕ → List ℕ → List ℕ → ℕ → ℕ → ℕ → State
 stateIn keys left right found taken next = record { store = storeIn keys left right found; taken = taken; next = next }
 

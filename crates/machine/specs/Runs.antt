@@ -13,22 +13,24 @@ pub record Given : Type 0 where
   pub budget : ℕ
   pub row : List ℕ
 
--- The calls of any stream, whose call is `step`, and the state after them.
+-- The calls of any stream, whose call is `step`, one after the other.
 unfoldable pub runOf : (ℕ → State → List ℕ → Called) → List Given → State → List Called
 runOf step [] q = []
 runOf step (g ∷ gs) q = step (g .budget) q (g .row) ∷ runOf step gs (step (g .budget) q (g .row) .after)
 
+-- The state after the calls.
 unfoldable pub endedOf : (ℕ → State → List ℕ → Called) → List Given → State → State
 endedOf step [] q = q
 endedOf step (g ∷ gs) q = endedOf step gs (step (g .budget) q (g .row) .after)
 
--- The keys handed out in calls, in order.
+-- The key that an answer hands out, if it is a set.
 abbrev pub keysIn : Says → ℕ → List ℕ
 keysIn aSet k = k ∷ []
 keysIn finished k = []
 keysIn working k = []
 keysIn (refused r) k = []
 
+-- The keys handed out in a list of calls.
 unfoldable pub handed : List Called → List ℕ
 handed [] = []
 handed (s ∷ l) = keysIn (s .says) (s .key) ++ handed l
@@ -40,12 +42,13 @@ sum f (s ∷ l) = f s + sum f l
 
 -- ---- the rule's steps, whatever the budgets
 
--- The state after a trial; a refused one leaves no mark. And its looks, which are then not counted.
+-- The state after a trial; a refused one leaves no mark.
 abbrev pub stays : State → Trial → State
 stays q (done p t l) = p
 stays q full = q
 stays q damaged = q
 
+-- The looks of a trial that are counted.
 abbrev pub looksOf : Trial → ℕ
 looksOf (done p t l) = l
 looksOf full = 0
@@ -63,11 +66,12 @@ module _ (cat : Catalogue) (cells : List ℕ) where
   unfoldable pub moveLooks : State → ℕ
   moveLooks q = cond (eqb (q .next) (total cat)) 0 (looksOf (trialOn cat cells q))
 
-  -- The state after k steps, and their looks.
+  -- The state after k steps.
   unfoldable pub moves : ℕ → State → State
   moves zero q = q
   moves (suc k) q = moves k (move q)
 
+  -- The looks of k steps.
   unfoldable pub looksIn : ℕ → State → ℕ
   looksIn zero q = 0
   looksIn (suc k) q = moveLooks q + looksIn k (move q)

@@ -24,6 +24,7 @@ alikeAt first second a = alike (getD first a 0) (getD second a 0)
 unfoldable pub agreeing : List ℕ → List ℕ → Bool
 agreeing first second = all (length first) (alikeAt first second)
 
+-- What its yes says, attribute by attribute.
 abbrev pub Agreeing : List ℕ → List ℕ → Type 0
 Agreeing first second = (a : ℕ) → 0 < getD first a 0 → 0 < getD second a 0 → getD first a 0 ≡ getD second a 0
 

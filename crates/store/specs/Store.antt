@@ -19,6 +19,7 @@ pub record Store : Type 0 where
   pub right : List ℕ
   pub found : ℕ
 
+-- The store of three lists, of which so many records are used.
 abbrev pub storeIn : List ℕ → List ℕ → List ℕ → ℕ → Store
 storeIn keys left right found = record { keys = keys; left = left; right = right; found = found }
 
@@ -26,9 +27,11 @@ storeIn keys left right found = record { keys = keys; left = left; right = right
 abbrev pub mostRecords : ℕ
 mostRecords = 65535
 
+-- How many records slices of these lengths have.
 abbrev pub roomOf : ℕ → ℕ → ℕ → ℕ
 roomOf keys left right = min (min (min mostRecords keys) left) right
 
+-- How many records a store has.
 abbrev pub roomIn : Store → ℕ
 roomIn q = roomOf (length (q .keys)) (length (q .left)) (length (q .right))
 
@@ -45,6 +48,7 @@ linkOf left right false p = getD left p 0
 -- `hit p`: record p has the sought key. `bit d`: the sought key's bit d. `link s p`: the link of record p on side s.
 -- The search goes on with so many bits left to turn by (as many looks are left after this one), at a depth, at the record of a place.
 module _ (hit bit : ℕ → Bool) (link : Bool → ℕ → ℕ) (found : ℕ) where
+  -- The search from there on.
   unfoldable pub walk : ℕ → ℕ → ℕ → Looked
   walk zero d p = cond (hit p) (Found p (d + 1)) (Damaged (d + 1))
   walk (suc more) d p =

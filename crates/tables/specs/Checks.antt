@@ -13,6 +13,7 @@ abbrev pub firstOf : ℕ → ℕ → ℕ
 firstOf zero later = later
 firstOf (suc k) later = suc k
 
+-- A number out of range: below the low end or above the high one.
 abbrev pub outside : ℕ → ℕ → ℕ → Bool
 outside low high x = ltb x low || ltb high x
 

@@ -3,6 +3,7 @@ use Prim.Native.Nat.{ℕ, _+_, _*_}
 use Rattle.image.specs.declared.Verdict.{Verdict}
 use Rattle.image.specs.declared.Verdict.the-variants.{Good, Refused}
 
+-- The number of a verdict.
 abbrev pub doorNumber : Verdict → ℕ
 doorNumber Good = 0
 doorNumber (Refused k p) = p * 32 + k
