@@ -29,9 +29,10 @@ use Rattle.rows.specs.World.{worldOf, setOf, fitsIn}
 use Rattle.rows.specs.Named.{Named, There}
 use Rattle.rows.proofs.WorldLaws.{world-symmetric, row-room}
 use Rattle.sets.specs.Merged.{mergedLength, Merged, matches, Added, rowIn, only}
-use Rattle.sets.specs.Promises.{KeyFor, parts}
+use Rattle.sets.specs.Promises.{FirstIn, KeyFor, parts}
+use Rattle.sets.proofs.MatchLaws.{matches-none}
 use Rattle.sets.proofs.MergedLaws.{matches-fits, merged-none, merged-add, only-here, only-other, only-more}
-use Rattle.sets.proofs.RowTestLaws.{start-of}
+use Rattle.sets.proofs.RowTestLaws.{first-one, start-of}
 
 -- ---- what has to go
 
@@ -101,13 +102,27 @@ module _ (cat : Catalogue) (lent : ℕ) (L : Lawful cat lent) (key u q base w : 
   member-room N =
       rw (f, start-of cat u q base b) (row-room cat lent L u q (record { table = l; low = omega (arith, p); high = rw e (N .rows u l) }))
 
-  pub parts-answer : (cells : List ℕ) (s : Place) (codes : List ℕ) (mask : ℕ) → 0 < s .row → u ≢ s .table → Merged cat cells (only (s .table) (s .row)) codes mask
-      → parts (worldOf cat cells) (setOf cat key) s u ≡ not (matches cells (schemeOf cat u) (base + (q - 1) * w) (bitAnd (schemeOf cat u) mask) codes)
-  parts-answer cells s codes mask r d M =
-      let o : at (setOf cat key) u ≡ q = in-at bitsPerRow (cat .n) key u l ∙ sym e in
-      let m : fitsIn cat cells u (at (setOf cat key) u) (s .table) (s .row) ≡ matches cells (schemeOf cat u) (base + (q - 1) * w) (bitAnd (schemeOf cat u) mask) codes =
-      rw (o, f, start-of cat u q base b) (fits-one cat cells lent L (s .table) (s .row) u q codes mask r M) in
-      parts-fits (worldOf cat cells) (setOf cat key) s u d (omega (arith, p, o)) ∙ ap not m
+  module _ (cells : List ℕ) (s : Place) (codes : List ℕ) (mask : ℕ) (r : 0 < s .row) (d : u ≢ s .table) (M : Merged cat cells (only (s .table) (s .row)) codes mask) where
+    parts-answer : parts (worldOf cat cells) (setOf cat key) s u ≡ not (matches cells (schemeOf cat u) (base + (q - 1) * w) (bitAnd (schemeOf cat u) mask) codes)
+    parts-answer =
+        let o : at (setOf cat key) u ≡ q = in-at bitsPerRow (cat .n) key u l ∙ sym e in
+        let m : fitsIn cat cells u (at (setOf cat key) u) (s .table) (s .row) ≡ matches cells (schemeOf cat u) (base + (q - 1) * w) (bitAnd (schemeOf cat u) mask) codes =
+        rw (o, f, start-of cat u q base b) (fits-one cat cells lent L (s .table) (s .row) u q codes mask r M) in
+        parts-fits (worldOf cat cells) (setOf cat key) s u d (omega (arith, p, o)) ∙ ap not m
+
+    -- It shares no attribute with s, or it is the first of one row that has the codes, or it is not.
+    pub parts-apart : bitAnd (schemeOf cat u) mask ≡ 0 → parts (worldOf cat cells) (setOf cat key) s u ≡ false
+    parts-apart z =
+        parts-answer
+        ∙ ap not (ap (λ (x : ℕ). matches cells (schemeOf cat u) (base + (q - 1) * w) x codes) z ∙ matches-none cells (schemeOf cat u) (base + (q - 1) * w) codes)
+
+    pub parts-first : (i : ℕ)
+        → FirstIn 1 (λ j. matches cells (schemeOf cat u) (rowIn (base + (q - 1) * w) (schemeOf cat u) j) (bitAnd (schemeOf cat u) mask) codes) i
+        → parts (worldOf cat cells) (setOf cat key) s u ≡ not (eqb i 0)
+    parts-first i h =
+        let z : rowIn (base + (q - 1) * w) (schemeOf cat u) 0 ≡ base + (q - 1) * w = omega arith in
+        parts-answer
+        ∙ ap not (ap (λ (x : ℕ). matches cells (schemeOf cat u) x (bitAnd (schemeOf cat u) mask) codes) (sym z) ∙ first-one _ i h)
 
 -- ---- table by table
 

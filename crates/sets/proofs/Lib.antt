@@ -2,6 +2,7 @@ pub mod MatchLaws
 pub mod CursorLaws
 pub mod MergedLaws
 pub mod RowTestLaws
+pub mod PlaceLaws
 pub mod Rounds
 pub mod Dropping
 pub mod Joining

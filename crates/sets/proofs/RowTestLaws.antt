@@ -2,11 +2,11 @@
 -- table's rows that passes it. The laws of the merged row carry the test. Assumes nothing.
 use Prim.Native.Nat.{ℕ, suc, _+_, _-_, _*_, _≤_, _<_}
 use mathlib.Core.Path.{_≡_, sym, ap, _∙_}
-use mathlib.Core.Logic.{_↔_}
+use mathlib.Core.Logic.{_⊎_, inl, inr, _↔_}
 use mathlib.Core.Bool.{Bool, true, false, not, _&&_}
 use mathlib.Core.List.{List}
 use native.Mathlib.Omega.{arith}
-use native.Mathlib.Nat.{suc-mul, mul-le-mul-right}
+use native.Mathlib.Nat.{eq-zero-or-pos, suc-mul, mul-le-mul-right}
 use native.Mathlib.Numerals.{add-one}
 use lib.ListN.{length}
 use lib.Bits.{bitAnd}
@@ -90,18 +90,27 @@ first-none k ok h = record { within = omega arith; before = λ i l. h i; found =
 pub first-same : (k : ℕ) (ok ok′ : ℕ → Bool) (r : ℕ) → ((i : ℕ) → ok i ≡ ok′ i) → FirstIn k ok′ r → FirstIn k ok r
 first-same k ok ok′ r e f = record { within = f .within; before = λ i l. e i ∙ f .before i l; found = λ l. e r ∙ f .found l }
 
+-- Of one number: it passes where it is the first that does.
+pub first-one : (ok : ℕ → Bool) (r : ℕ) → FirstIn 1 ok r → ok 0 ≡ eqb r 0
+first-one ok r f = go (eq-zero-or-pos r)
+  where
+    go : (r ≡ 0) ⊎ (0 < r) → ok 0 ≡ eqb r 0
+    go (inl e) = rw (eq-eqb r 0 e) (rw e at (f .found (omega arith)))
+    go (inr p) = rw (ne-eqb r 0 (omega arith)) (f .before 0 p)
+
 -- Where row i + 1 of a table begins.
 pub start-is : (cat : Catalogue) (t i base : ℕ) → base ≡ firstCell cat t → rowIn base (schemeOf cat t) i ≡ rowStart cat t (suc i)
 unfolding rowStart
 start-is cat t i base e = let s : suc i - 1 ≡ i = omega arith in rw (e, s)
 
-pub start-next : (base scheme i : ℕ) → rowIn base scheme (i + 1) ≡ rowIn base scheme i + ones scheme
-start-next base scheme i = rw (add-one i) (omega (arith, suc-mul i (ones scheme)))
+-- Rows of w cells that lie one after the other: where the next one begins, and that the cells of each are there where those of all k are.
+pub start-next : (base w i : ℕ) → base + (i + 1) * w ≡ (base + i * w) + w
+start-next base w i = rw (add-one i) (omega (arith, suc-mul i w))
 
-pub start-inside : (base scheme i k lent : ℕ) → i < k → rowIn base scheme k ≤ lent → rowIn base scheme i + ones scheme ≤ lent
-start-inside base scheme i k lent l h = omega (arith, suc-mul i (ones scheme), mul-le-mul-right (ones scheme) l)
+pub start-inside : (base w i k lent : ℕ) → i < k → base + k * w ≤ lent → (base + i * w) + w ≤ lent
+start-inside base w i k lent l h = omega (arith, suc-mul i w, mul-le-mul-right w l)
 
--- The same of row r, which is there.
+-- Where row r of a table begins, which is there.
 pub start-of : (cat : Catalogue) (t r base : ℕ) → base ≡ firstCell cat t → rowIn base (schemeOf cat t) (r - 1) ≡ rowStart cat t r
 unfolding rowStart
 start-of cat t r base e = rw e

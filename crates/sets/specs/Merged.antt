@@ -1,7 +1,8 @@
 -- The merged row of a set: the attributes that its members have, and one code for each of them, such that a row fits every member exactly where it has
 -- these codes at the attributes that it shares (proofs/MergedLaws). A member is a row number f u above 0 of table u. Assumes nothing.
-use Prim.Native.Nat.{ℕ, _+_, _*_, _^_, _<_}
+use Prim.Native.Nat.{ℕ, _+_, _*_, _%_, _^_, _≤_, _<_}
 use mathlib.Core.Path.{_≡_}
+use mathlib.Core.Logic.{_≢_}
 use mathlib.Core.Bool.{Bool, true, false, not, cond, _||_}
 use mathlib.Core.List.{List}
 use lib.ListN.{getD, length}
@@ -67,3 +68,15 @@ rowIn base scheme i = base + i * ones scheme
 -- The one member row r of table t.
 unfoldable pub only : ℕ → ℕ → ℕ → ℕ
 only t r u = cond (eqb u t) r 0
+
+-- `places` has, for each attribute of the mask, where its cell lies in a row of this scheme.
+pub record Places (scheme mask : ℕ) (places : List ℕ) : Type 0 where
+  pub long : length places ≡ mergedLength
+  pub each : (a : ℕ) → bitOf mask a ≡ true → getD places a 0 ≡ ones (scheme % 2 ^ a)
+
+-- r is the next of k rows, from row i on, that has the code v in one cell; k where none has it. Row 0's cell lies at `first`, and a row is w cells wide.
+pub record NextEqual (cells : List ℕ) (first w i k v r : ℕ) : Type 0 where
+  pub from : i ≤ r
+  pub within : r ≤ k
+  pub before : (j : ℕ) → j < r → i ≤ j → getD cells (first + j * w) 0 ≢ v
+  pub found : r < k → getD cells (first + r * w) 0 ≡ v

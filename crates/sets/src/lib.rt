@@ -1,10 +1,12 @@
 // Row sets as keys: the row test by the set's merged row, the extension, and the set that a trial comes to.
 ghost use mathlib.Core.Path.{_≡_};
+ghost use mathlib.Core.Bool.{true};
 ghost use mathlib.Core.List.{List};
 ghost use Prim.Native.Nat.{ℕ, _+_, _-_, _*_, _^_, _≤_, _<_};
-ghost use lib.ListN.{length};
+ghost use lib.ListN.{length, getD};
 ghost use lib.Bits.{bitAnd, bitOr};
 ghost use lib.Count.{ones};
+ghost use Rattle.words.specs.Words.{bitOf};
 ghost use Rattle.keys.specs.Keys.{bitsPerRow};
 ghost use Rattle.tables.specs.Sizes.{mostRows, mostCells};
 ghost use Rattle.tables.specs.Catalogues.{countOf, firstCell};
@@ -13,7 +15,7 @@ ghost use Rattle.disjunction.specs.Sets.{at};
 ghost use Rattle.disjunction.specs.Rule.{extension, dropped, piece, trial};
 ghost use Rattle.rows.specs.World.{worldOf, setOf, placeOf};
 ghost use Rattle.rows.specs.Named.{Named, There};
-ghost use Rattle.sets.specs.Merged.{mergedLength, Under, Attributes, Merged, matches, joint, Joined, Added, rowIn, only};
+ghost use Rattle.sets.specs.Merged.{mergedLength, Under, Attributes, Merged, matches, joint, Joined, Added, rowIn, only, Places, NextEqual};
 ghost use Rattle.sets.specs.Promises.{FirstIn, tested, KeyFor, Comes, parts, joinsIn};
 use tables::Catalogue;
 use tables::Row;
@@ -24,16 +26,55 @@ pub struct Grown {
     pub tests: usize,
 }
 
-// Whether the row of this scheme at `start` has the merged codes at the shared attributes.
+// The next of a table's rows, from row i on, that has the wanted code at one attribute; their number where none has. Row 0's cell of it lies at `first`.
+// Nearly every row is passed over here, by one comparison, and the place is carried along from row to row.
+fn next_equal(cells: &[u64], first: usize, w: usize, i: usize, count: usize, wanted: u64) -> usize
+    requires { ⌜ (i ≤ count) × (w ≤ mergedLength) × (first + count * w < length (now cells) + w) ⌝ }
+    ensures { λ r. ⌜ NextEqual (now (cells .entry)) first w i count wanted r ⌝ }
+{
+    let mut r = i;
+    let mut place = first + i * w;
+    while r < count {
+        if cells[place] == wanted {
+            return r;
+        }
+        place = place + w;
+        r += 1;
+    }
+    count
+}
+
+// Where the cells of a mask's attributes lie in a row of this scheme, by attribute.
+// They lie there in every row of a table, so that the ones of a mask are counted once for the table and not once a row.
+fn places_of(scheme: u64, shared: u64) -> [u8; 64]
+    ensures { λ r. ⌜ Places scheme shared r ⌝ }
+{
+    let mut places: [u8; 64] = [0; 64];
+    let mut rest = shared;
+    while rest != 0 {
+        let a = words::lowest(rest);
+        places[a] = tables::rank(scheme, a) as u8;
+        rest = words::without_lowest(rest);
+    }
+    places
+}
+
+// Whether the row at `start`, whose cells lie at these places, has the merged codes at the shared attributes.
 // Only the set bits of the mask are gone through, each with one read of the row and one of the merged row.
-fn fits_merged(cells: &[u64], scheme: u64, start: usize, shared: u64, merged: &[u64; 64]) -> bool
-    requires { ⌜ (start + ones scheme ≤ length (now cells)) × Under shared scheme ⌝ }
-    ensures { λ r. ⌜ r ≡ matches (now (cells .entry)) scheme start shared (now (merged .entry)) ⌝ }
+fn fits_placed(
+    cells: &[u64],
+    start: usize,
+    shared: u64,
+    places: &[u8; 64],
+    merged: &[u64; 64],
+) -> bool
+    requires { ⌜ ((a : ℕ) → bitOf shared a ≡ true → start + getD (now places) a 0 < length (now cells)) ⌝ }
+    ensures { λ r. ⌜ ((scheme : ℕ) → Places scheme shared (now (places .entry)) → r ≡ matches (now (cells .entry)) scheme start shared (now (merged .entry))) ⌝ }
 {
     let mut rest = shared;
     while rest != 0 {
         let a = words::lowest(rest);
-        let code = rows::code_at(cells, scheme, start, a);
+        let code = cells[start + places[a] as usize];
         if code == 0 {
             return false;
         }
@@ -118,8 +159,8 @@ fn merge_set(cat: Catalogue, cells: &[u64], key: u64, merged: &mut [u64; 64]) ->
     attrs
 }
 
-// The first of a table's rows, from 0, that has the merged codes at the shared attributes; their number where none has.
-// Rows lie one after the other, so the next one is a width further.
+// The first of a table's rows, from 0, that has the merged codes at the shared attributes, at least one; their number where none has.
+// Only a row with the code of the lowest of them is looked at further, and where that code is 0 no row is.
 fn first_fit(
     cells: &[u64],
     scheme: u64,
@@ -128,18 +169,27 @@ fn first_fit(
     shared: u64,
     merged: &[u64; 64],
 ) -> usize
-    requires { ⌜ (rowIn base scheme count ≤ length (now cells)) × Under shared scheme ⌝ }
+    requires { ⌜ (rowIn base scheme count ≤ length (now cells)) × Under shared scheme × (0 < shared) ⌝ }
     ensures { λ r. ⌜ FirstIn count (λ i. matches (now (cells .entry)) scheme (rowIn base scheme i) shared (now (merged .entry))) r ⌝ }
 {
+    let a = words::lowest(shared);
+    let wanted = merged[a];
+    if wanted == 0 {
+        return count;
+    }
     let w = tables::width(scheme);
-    let mut i: usize = 0;
-    let mut start = base;
+    let first = base + tables::rank(scheme, a);
+    let mut i = next_equal(cells, first, w, 0, count, wanted);
+    if i == count {
+        return count;
+    }
+    let rest = words::without_lowest(shared);
+    let places = places_of(scheme, rest);
     while i < count {
-        if fits_merged(cells, scheme, start, shared, merged) {
+        if fits_placed(cells, base + i * w, rest, &places, merged) {
             return i;
         }
-        start = start + w;
-        i += 1;
+        i = next_equal(cells, first, w, i + 1, count, wanted);
     }
     count
 }
@@ -208,7 +258,7 @@ pub fn extend(cat: Catalogue, cells: &[u64], from: u64) -> Grown
 }
 
 // Whether table u's row of the set has to go: it is another table's than x's, and not consistent with x. Table u's cells begin at `base`.
-// The row of x is given as a merged row, so that one comparison serves the row test and the drop.
+// The row of x is given as a merged row, and u's row as a table of one row, so that one comparison serves the row test and the drop.
 fn parted(
     cat: Catalogue,
     cells: &[u64],
@@ -230,8 +280,12 @@ fn parted(
         return false;
     }
     let scheme = cat.schemes[u];
+    let common = scheme & attrs;
+    if common == 0 {
+        return false;
+    }
     let start = base + (q - 1) * tables::width(scheme);
-    if fits_merged(cells, scheme, start, scheme & attrs, merged) {
+    if first_fit(cells, scheme, start, 1, common, merged) == 0 {
         return false;
     }
     true

@@ -56,7 +56,7 @@ returns-2 c =
 first-fit-requires : tie.Need-first-fit-requires
 first-fit-requires c κs =
     let s = c .before .before .before .before .before .before in
-    (rw (s .pre .2) (omega (arith, table-ends (s .args .t1) _ (s .pre .0) _ (s .pre .1), s .pre .0 .room)), shared-under _ _)
+    (rw (s .pre .2) (omega (arith, table-ends (s .args .t1) _ (s .pre .0) _ (s .pre .1), s .pre .0 .room)), shared-under _ _, omega (arith, c .if2 .left))
 
 returns-3 : tie.Need-returns-3
 returns-3 c =

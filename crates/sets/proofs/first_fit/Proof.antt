@@ -1,65 +1,158 @@
--- `sets::first_fit` meets its contract. Invariant: `start` is row i's, and no row before it matches. Assumes nothing.
+-- `sets::first_fit` meets its contract. Invariant: no row before row i has the merged codes, and row i has the first of them (`Walked`). Assumes nothing.
 use borrow.Author.Needs.{needs}
 use native.Mathlib.Omega.{arith}
-use Prim.Native.Nat.{ℕ, _-_, _≤_, _<_}
-use mathlib.Core.Path.{_≡_, sym, _∙_}
-use mathlib.Core.Bool.{false}
+use Prim.Native.Nat.{ℕ, _+_, _-_, _*_, _≤_, _<_}
+use mathlib.Core.Path.{_≡_, sym, ap, _∙_}
+use lib.ListN.{length, getD}
+use lib.Count.{ones, ones-le}
 use borrow.Author.Count.{below-more}
-use Rattle.sets.specs.Merged.{matches, rowIn}
-use Rattle.sets.proofs.RowTestLaws.{start-next, start-inside}
+use Rattle.rows.proofs.WorldLaws.{code-inside}
+use Rattle.sets.specs.Merged.{mergedLength, matches, rowIn}
+use Rattle.sets.proofs.MatchLaws.{under-less}
+use Rattle.sets.proofs.RowTestLaws.{first-none, start-inside}
+use Rattle.sets.proofs.PlaceLaws.{Walked, walk-next, walk-end, row-null, row-rest}
 use Rattle.sets.proofs.first_fit.Statement.{statement}
 use Rattle.sets.proofs.first_fit.Tie as tie
 
 abbrev Inv-loop : tie.InvT-loop
-Inv-loop cells scheme base count shared merged w i₀ start₀ i start = (i ≤ count) × (start ≡ rowIn base scheme i) × ((j : ℕ) → j < i → matches cells scheme (rowIn base scheme j) shared merged ≡ false)
+Inv-loop cells scheme base count shared merged a wanted w first i₀ rest places i =
+    Walked cells first w count wanted (λ j. matches cells scheme (rowIn base scheme j) shared merged) i
 
 abbrev μ-loop : tie.MeasureT-loop
-μ-loop cells scheme base count shared merged w i₀ start₀ i start = count - i
+μ-loop cells scheme base count shared merged a wanted w first i₀ rest places i = count - i
+
+-- the first cells of all rows are there
+room : (c : tie.After-rank Inv-loop μ-loop)
+    → (c .before .width .result ≤ mergedLength)
+    × ((c .before .before .before .before .before .before .args .base + c .rank .result) + c .before .before .before .before .before .before .args .count * c .before .width .result < length (c .before .before .before .before .before .before .args .cells .now) + c .before .width .result)
+room c =
+    let l = c .before .before .before .before in
+    let s = l .before .before in
+    rw (c .before .width .ensures, c .rank .ensures) (
+      ones-le mergedLength _ (s .fits .scheme .fits),
+      omega (
+        arith,
+        s .pre .0,
+        code-inside (s .args .scheme) (rowIn (s .args .base) (s .args .scheme) (s .args .count)) (length (s .args .cells .now) + ones (s .args .scheme)) (l .lowest .result)
+            (omega (arith, s .pre .0)) (s .pre .1 _ (l .lowest .ensures .itself)),
+      ),
+    )
+
+-- the walk comes to the first row that has the first code
+begun : (c : tie.After-next-equal Inv-loop μ-loop)
+    → Walked (c .before .before .before .before .before .before .before .args .cells .now) (c .before .before .before .before .before .before .before .args .base + c .before .rank .result) (c .before .before .width .result) (c .before .before .before .before .before .before .before .args .count)
+    (getD (c .before .before .before .before .before .before .before .args .merged .now) (c .before .before .before .before .before .lowest .result) 0)
+    (λ j. matches (c .before .before .before .before .before .before .before .args .cells .now) (c .before .before .before .before .before .before .before .args .scheme) (rowIn (c .before .before .before .before .before .before .before .args .base) (c .before .before .before .before .before .before .before .args .scheme) j) (c .before .before .before .before .before .before .before .args .shared) (c .before .before .before .before .before .before .before .args .merged .now)) (c .next-equal .result)
+begun c =
+    let k = c .before in
+    let l = k .before .before .before .before in
+    let s = l .before .before in
+    walk-next (s .args .cells .now) (s .args .scheme) (s .args .base) _ (s .args .merged .now) _ (l .lowest .ensures) _ _
+    (ap (λ (x : ℕ). s .args .base + x) (k .rank .ensures)) (k .before .width .ensures) _ 0 _ (λ j b. absurd (omega arith)) (c .next-equal .ensures)
+
+lowest-requires : tie.Need-lowest-requires Inv-loop μ-loop
+lowest-requires c κs = c .before .pre .2
+
+mul-wanted : tie.Need-mul-wanted Inv-loop μ-loop
+mul-wanted c = search needs
+
+element-copy-out-wanted : tie.Need-element-copy-out-wanted Inv-loop μ-loop
+element-copy-out-wanted c = search needs
+
+returns : tie.Need-returns Inv-loop μ-loop
+returns c =
+    let l = c .before .before in
+    let s = l .before .before in
+    first-none _ _ (row-null (s .args .cells .now) (s .args .scheme) (s .args .base) _ (s .args .merged .now) _ (l .lowest .ensures) (c .if1 .taken))
 
 width-requires : tie.Need-width-requires Inv-loop μ-loop
 width-requires c κs = search needs
 
+rank-requires : tie.Need-rank-requires Inv-loop μ-loop
+rank-requires c κs = search needs
+
+add-first : tie.Need-add-first Inv-loop μ-loop
+add-first c = omega (arith, room c)
+
+next-equal-requires : tie.Need-next-equal-requires Inv-loop μ-loop
+next-equal-requires c κs = (omega arith, room c .0, room c .1)
+
+returns-2 : tie.Need-returns-2 Inv-loop μ-loop
+returns-2 c = walk-end _ _ _ _ _ _ _ (begun (c .before)) (c .if2 .taken)
+
+without-lowest-requires : tie.Need-without-lowest-requires Inv-loop μ-loop
+without-lowest-requires c κs = c .before .before .before .before .before .before .before .before .pre .2
+
+places-of-requires : tie.Need-places-of-requires Inv-loop μ-loop
+places-of-requires c κs = search needs
+
 loop-holds : tie.Need-loop-holds Inv-loop μ-loop
-loop-holds c = (omega arith, omega arith, λ j l. absurd (omega arith))
+loop-holds c = begun (c .before .before .before)
 
-fits-merged-requires : tie.Need-fits-merged-requires Inv-loop μ-loop
-fits-merged-requires c κs =
-    let l = c .before in
-    let s = l .before .before .before in
-    (rw (l .loop .inv .1) (start-inside _ _ _ _ _ (c .loop-test .taken) (s .pre .0)), s .pre .1)
+-- row i's cells are there
+inside : (c : tie.In-loop Inv-loop μ-loop)
+    → (c .before .before .before .before .before .before .before .before .before .before .before .before .args .base + c .before .loop .i * c .before .before .before .before .before .before .before .width .result) + ones (c .before .before .before .before .before .before .before .before .before .before .before .before .args .scheme) ≤ length (c .before .before .before .before .before .before .before .before .before .before .before .before .args .cells .now)
+inside c =
+    let w = c .before .before .before .before .before .before .before in
+    let s = w .before .before .before .before .before in
+    rw (w .width .ensures) (start-inside (s .args .base) (ones (s .args .scheme)) _ _ _ (c .loop-test .taken) (s .pre .0))
 
-returns : tie.Need-returns Inv-loop μ-loop
-returns c =
-    let f = c .before in
-    let l = f .before .before in
-    record { within = l .loop .inv .0; before = l .loop .inv .2; found = λ b. rw (← l .loop .inv .1) (sym (f .fits-merged .ensures) ∙ c .if1 .taken) }
+-- and what the comparison says of it is whether it has the merged codes
+answer : (c : tie.After-fits-placed Inv-loop μ-loop)
+    → matches (c .before .before .before .before .before .before .before .before .before .before .before .before .before .before .args .cells .now) (c .before .before .before .before .before .before .before .before .before .before .before .before .before .before .args .scheme) (rowIn (c .before .before .before .before .before .before .before .before .before .before .before .before .before .before .args .base) (c .before .before .before .before .before .before .before .before .before .before .before .before .before .before .args .scheme) (c .before .before .before .loop .i)) (c .before .before .before .before .before .before .before .before .before .before .before .before .before .before .args .shared) (c .before .before .before .before .before .before .before .before .before .before .before .before .before .before .args .merged .now) ≡ c .fits-placed .result
+answer c =
+    let o = c .before .before .before in
+    let p = o .before in
+    let k = p .before .before .before .before in
+    let l = k .before .before .before .before in
+    let s = l .before .before in
+    row-rest (s .args .cells .now) (s .args .scheme) (s .args .base) _ (s .args .merged .now) _ (l .lowest .ensures) _ _
+    (ap (λ (x : ℕ). s .args .base + x) (k .rank .ensures)) (k .before .width .ensures) (k .before .before .if1 .left) _ (o .loop .inv .code (c .before .before .loop-test .taken))
+    ∙ sym (rw (k .before .width .ensures, p .before .without-lowest .ensures _ (l .lowest .ensures)) at (c .fits-placed .ensures _ (p .places-of .ensures)))
 
-add-start : tie.Need-add-start Inv-loop μ-loop
-add-start c =
-    let l = c .before .before .before in
-    let s = l .before .before .before in
-    omega (arith, l .loop .inv .1, l .before .width .ensures, start-inside _ _ _ _ _ (c .before .before .loop-test .taken) (s .pre .0))
+mul-fits-placed : tie.Need-mul-fits-placed Inv-loop μ-loop
+mul-fits-placed c = omega (arith, inside c)
 
-add-i : tie.Need-add-i Inv-loop μ-loop
-add-i c = search needs
+add-fits-placed : tie.Need-add-fits-placed Inv-loop μ-loop
+add-fits-placed c = omega (arith, inside c)
+
+fits-placed-requires : tie.Need-fits-placed-requires Inv-loop μ-loop
+fits-placed-requires c κs d b =
+    let p = c .before .before .before in
+    let l = p .before .before .before .before .before .before .before .before in
+    let s = l .before .before in
+    rw (p .places-of .ensures .each d b)
+    (code-inside (s .args .scheme) _ _ d (inside (c .before))
+    (under-less _ _ (l .lowest .ensures) _ (s .pre .1) d (rw (p .before .without-lowest .ensures _ (l .lowest .ensures)) at b)))
+
+returns-3 : tie.Need-returns-3 Inv-loop μ-loop
+returns-3 c =
+    let v = c .before .before .before .before .loop .inv in
+    record { within = v .within; before = v .before; found = λ b. answer (c .before) ∙ c .if3 .taken }
+
+add-next-equal : tie.Need-add-next-equal Inv-loop μ-loop
+add-next-equal c = omega (arith, c .before .before .before .loop-test .taken)
+
+next-equal-requires-2 : tie.Need-next-equal-requires-2 Inv-loop μ-loop
+next-equal-requires-2 c κs =
+    let r = room (c .before .before .before .before .before .before .before .before .before) in
+    (omega (arith, c .before .before .before .loop-test .taken), r .0, r .1)
 
 loop-less : tie.Need-loop-less Inv-loop μ-loop
-loop-less c = search needs
+loop-less c = omega (arith, c .next-equal2 .ensures .from, c .before .before .before .before .loop-test .taken)
 
 loop-again : tie.Need-loop-again Inv-loop μ-loop
 loop-again c =
-    let f = c .before in
-    let l = f .before .before in (
-      omega (arith, f .before .loop-test .taken),
-      omega (arith, l .loop .inv .1, l .before .width .ensures, start-next (l .before .before .before .args .base) (l .before .before .before .args .scheme) (l .loop .i)),
-      below-more _ _ (l .loop .inv .2) (rw (← l .loop .inv .1) (sym (f .fits-merged .ensures) ∙ c .if1 .left)),
-    )
+    let o = c .before .before .before .before .before in
+    let k = o .before .before .before .before .before in
+    let l = k .before .before .before .before in
+    let s = l .before .before in
+    walk-next (s .args .cells .now) (s .args .scheme) (s .args .base) _ (s .args .merged .now) _ (l .lowest .ensures) _ _
+    (ap (λ (x : ℕ). s .args .base + x) (k .rank .ensures)) (k .before .width .ensures) _ _ _
+    (below-more _ _ (o .loop .inv .before) (answer (c .before .before) ∙ c .before .if3 .left)) (c .next-equal2 .ensures)
 
-returns-2 : tie.Need-returns-2 Inv-loop μ-loop
-returns-2 c =
-    let l = c .before in
-    let e : l .loop .i ≡ l .before .before .before .args .count = omega (arith, l .loop .inv .0, c .loop-test .left) in
-    record { within = omega arith; before = rw e at (l .loop .inv .2); found = λ b. absurd (omega arith) }
+returns-4 : tie.Need-returns-4 Inv-loop μ-loop
+returns-4 c = let o = c .before in walk-end _ _ _ _ _ _ _ (o .loop .inv) (omega (arith, o .loop .inv .within, c .loop-test .left))
 
 pub first-fit-spec : {M : Type 1} → statement M
 first-fit-spec =
@@ -67,12 +160,24 @@ first-fit-spec =
     (tie.spec
     Inv-loop
     μ-loop
-    width-requires
-    loop-holds
-    fits-merged-requires
+    lowest-requires
+    mul-wanted
+    element-copy-out-wanted
     returns
-    add-start
-    add-i
+    width-requires
+    rank-requires
+    add-first
+    next-equal-requires
+    returns-2
+    without-lowest-requires
+    places-of-requires
+    loop-holds
+    mul-fits-placed
+    add-fits-placed
+    fits-placed-requires
+    returns-3
+    add-next-equal
+    next-equal-requires-2
     loop-less
     loop-again
-    returns-2)
+    returns-4)

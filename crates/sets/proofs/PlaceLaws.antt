@@ -1,0 +1,97 @@
+-- The walk over a table's rows: they are passed over by their code at the lowest shared attribute, and where the other shared attributes lie in a row is
+-- worked out once, bit by bit of the mask. Assumes nothing.
+use Prim.Native.Nat.{ℕ, _+_, _-_, _*_, _%_, _^_, _≤_, _<_}
+use mathlib.Core.Path.{_≡_, sym, ap, _∙_}
+use mathlib.Core.Logic.{⊎-elim}
+use mathlib.Core.Bool.{Bool, true, false}
+use mathlib.Core.List.{List}
+use native.Mathlib.Omega.{arith}
+use native.Mathlib.Decide.{decLt}
+use native.Mathlib.Nat.{mod-lt}
+use lib.ListN.{length, getD, set, length-set}
+use lib.Seq.{getD-set-same, getD-set-other}
+use lib.Count.{ones, ones-le}
+use lib.Pow.{pow-pos}
+use Rattle.laws.proofs.TestLaws.{clash}
+use Rattle.words.specs.Words.{bitOf, LowestBit}
+use Rattle.words.proofs.WordLaws.{zero-bit}
+use Rattle.tables.specs.Catalogues.{codeAt}
+use Rattle.sets.specs.Merged.{mergedLength, matches, rowIn, Places, NextEqual}
+use Rattle.sets.specs.Promises.{FirstIn}
+use Rattle.sets.proofs.MatchLaws.{bit-taken, matches-more, matches-bad}
+
+-- ---- the places
+
+-- There are fewer attributes below one of a word than a word has bits.
+pub rank-few : (scheme a : ℕ) → a < mergedLength → ones (scheme % 2 ^ a) < mergedLength
+rank-few scheme a l = omega (arith, ones-le a (scheme % 2 ^ a) (mod-lt scheme (pow-pos a)))
+
+-- Of places that are being worked out: they are there but for the bits that are left.
+pub record Placing (scheme mask : ℕ) (places : List ℕ) (rest : ℕ) : Type 0 where
+  pub long : length places ≡ mergedLength
+  pub own : (a : ℕ) → bitOf mask a ≡ true → bitOf rest a ≡ false → getD places a 0 ≡ ones (scheme % 2 ^ a)
+
+module _ (scheme mask : ℕ) (places : List ℕ) where
+  pub place-start : length places ≡ mergedLength → Placing scheme mask places mask
+  place-start h = record { long = h; own = λ a b n. absurd (clash b n) }
+
+  pub place-next : (rest a v : ℕ) → Placing scheme mask places rest → LowestBit mergedLength rest a → v ≡ ones (scheme % 2 ^ a)
+      → Placing scheme mask (set places a v) (rest - 2 ^ a)
+  place-next rest a v k l e =
+      record {
+        long = length-set places a v ∙ k .long;
+        own = λ d m b.
+            ⊎-elim
+            (λ (q : d ≡ a). rw q (getD-set-same places a v 0 (omega (arith, k .long, l .narrow)) ∙ e))
+            (λ n. getD-set-other places a d v 0 (λ (q : d ≡ a). clash (l .itself) (rw q at n)) ∙ k .own d m n)
+            (bit-taken rest a l d b);
+      }
+
+  pub place-end : Placing scheme mask places 0 → Places scheme mask places
+  place-end k = record { long = k .long; each = λ a b. k .own a b (zero-bit a) }
+
+  -- What lies at an attribute's place is the row's code of it.
+  pub placed-code : Places scheme mask places → (cells : List ℕ) (start a : ℕ) → bitOf mask a ≡ true
+      → getD cells (start + getD places a 0) 0 ≡ codeAt cells scheme start a
+  placed-code p cells start a b = ap (λ (x : ℕ). getD cells (start + x) 0) (p .each a b)
+
+-- ---- the walk
+
+-- None of k rows before row i passes, and row i, where there is one, has the code v in the cell that every row is asked for first.
+pub record Walked (cells : List ℕ) (first w k v : ℕ) (ok : ℕ → Bool) (i : ℕ) : Type 0 where
+  pub within : i ≤ k
+  pub before : (j : ℕ) → j < i → ok j ≡ false
+  pub code : i < k → getD cells (first + i * w) 0 ≡ v
+
+-- Where there is no row left, none passes.
+pub walk-end : (cells : List ℕ) (first w k v : ℕ) (ok : ℕ → Bool) (i : ℕ) → Walked cells first w k v ok i → i ≡ k → FirstIn k ok k
+walk-end cells first w k v ok i s e = record { within = omega arith; before = λ j l. s .before j (omega arith); found = λ l. absurd (omega arith) }
+
+-- The rows of a table from `base` on, by the cell of their lowest shared attribute.
+module _ (cells : List ℕ) (scheme base shared : ℕ) (codes : List ℕ) (a : ℕ) (l : LowestBit mergedLength shared a) where
+  -- Row j has the merged codes.
+  abbrev pub rowFits : ℕ → Bool
+  rowFits j = matches cells scheme (rowIn base scheme j) shared codes
+
+  -- Where the merged code is 0, no row has them.
+  pub row-null : getD codes a 0 ≡ 0 → (j : ℕ) → rowFits j ≡ false
+  row-null z j = matches-bad cells scheme (rowIn base scheme j) codes shared a l (λ s. omega (arith, z, s .0))
+
+  module _ (first w : ℕ) (e : first ≡ base + ones (scheme % 2 ^ a)) (f : w ≡ ones scheme) where
+    cell : (j : ℕ) → getD cells (first + j * w) 0 ≡ codeAt cells scheme (rowIn base scheme j) a
+    cell j = rw (e, f) (ap (λ (x : ℕ). getD cells x 0) (omega arith))
+
+    -- A row with another code does not have them, so the walk goes on at the next row with this one,
+    pub walk-next : (k i r : ℕ) → ((j : ℕ) → j < i → rowFits j ≡ false) → NextEqual cells first w i k (getD codes a 0) r
+        → Walked cells first w k (getD codes a 0) rowFits r
+    walk-next k i r p n = record { within = n .within; before = λ j b. go j b (decLt j i); code = n .found }
+      where
+        go : (j : ℕ) → j < r → Dec (j < i) → rowFits j ≡ false
+        go j b (yes h) = p j h
+        go j b (no g) =
+            matches-bad cells scheme (rowIn base scheme j) codes shared a l (λ s. n .before j b (omega arith) (cell j ∙ sym (s .1)))
+
+    -- and of that row the other shared attributes decide.
+    pub row-rest : (getD codes a 0 ≡ 0 → ⊥) → (j : ℕ) → getD cells (first + j * w) 0 ≡ getD codes a 0
+        → rowFits j ≡ matches cells scheme (rowIn base scheme j) (shared - 2 ^ a) codes
+    row-rest p j q = matches-more cells scheme (rowIn base scheme j) codes shared a l (omega (arith, p), sym q ∙ cell j)

@@ -1,0 +1,117 @@
+-- `sets::fits_placed` meets its contract. Invariant: what is left of the mask to match is the whole answer, of any scheme that the places are of. The
+-- mask falls. Assumes nothing.
+use borrow.Author.Needs.{needs}
+use native.Mathlib.Omega.{arith}
+use Prim.Native.Nat.{ℕ, _+_, _<_}
+use mathlib.Core.Path.{_≡_, refl, sym, _∙_}
+use lib.ListN.{length, getD}
+use Rattle.tables.specs.Catalogues.{codeAt}
+use Rattle.sets.specs.Merged.{Under, matches, Places}
+use Rattle.sets.proofs.MatchLaws.{bit-fewer, under-less, matches-none, matches-more, matches-bad}
+use Rattle.sets.proofs.PlaceLaws.{placed-code}
+use Rattle.sets.proofs.fits_placed.Statement.{statement}
+use Rattle.sets.proofs.fits_placed.Tie as tie
+
+abbrev Inv-loop : tie.InvT-loop
+Inv-loop cells start shared places merged rest₀ rest =
+    ((scheme : ℕ) → Places scheme shared places → matches cells scheme start shared merged ≡ matches cells scheme start rest merged) × Under rest shared
+
+abbrev μ-loop : tie.MeasureT-loop
+μ-loop cells start shared places merged rest₀ rest = rest
+
+-- the attribute's cell is there
+inside : (c : tie.After-lowest Inv-loop μ-loop)
+    → c .before .before .before .before .args .start + getD (c .before .before .before .before .args .places .now) (c .lowest .result) 0
+    < length (c .before .before .before .before .args .cells .now)
+inside c = c .before .before .before .before .pre _ (c .before .before .loop .inv .1 _ (c .lowest .ensures .itself))
+
+-- and what is read from it is the row's code
+own : (c : tie.After-lowest Inv-loop μ-loop) (scheme : ℕ)
+    → Places scheme (c .before .before .before .before .args .shared) (c .before .before .before .before .args .places .now)
+    → getD (c .before .before .before .before .args .cells .now)
+    (c .before .before .before .before .args .start + getD (c .before .before .before .before .args .places .now) (c .lowest .result) 0) 0
+    ≡ codeAt (c .before .before .before .before .args .cells .now) scheme (c .before .before .before .before .args .start) (c .lowest .result)
+own c scheme p =
+    let s = c .before .before .before .before in
+    placed-code scheme _ _ p (s .args .cells .now) (s .args .start) (c .lowest .result) (c .before .before .loop .inv .1 _ (c .lowest .ensures .itself))
+
+loop-holds : tie.Need-loop-holds Inv-loop μ-loop
+loop-holds c = (λ scheme p. refl, λ a b. b)
+
+lowest-requires : tie.Need-lowest-requires Inv-loop μ-loop
+lowest-requires c κs = search needs
+
+element-copy-out-code : tie.Need-element-copy-out-code Inv-loop μ-loop
+element-copy-out-code c = search needs
+
+cast-code : tie.Need-cast-code Inv-loop μ-loop
+cast-code c = omega (arith, inside (c .before))
+
+add-code : tie.Need-add-code Inv-loop μ-loop
+add-code c = omega (arith, inside (c .before))
+
+mul-code : tie.Need-mul-code Inv-loop μ-loop
+mul-code c = omega (arith, inside (c .before))
+
+shared-slice-read-code : tie.Need-shared-slice-read-code Inv-loop μ-loop
+shared-slice-read-code c = inside (c .before .before)
+
+returns : tie.Need-returns Inv-loop μ-loop
+returns c scheme p =
+    let l = c .before .before .before in
+    sym (l .before .before .loop .inv .0 scheme p ∙ matches-bad _ _ _ _ _ _ (l .lowest .ensures) (λ s. omega (arith, s .0, s .1, sym (c .if1 .taken) ∙ own l scheme p)))
+
+mul-if2 : tie.Need-mul-if2 Inv-loop μ-loop
+mul-if2 c = search needs
+
+element-copy-out-if2 : tie.Need-element-copy-out-if2 Inv-loop μ-loop
+element-copy-out-if2 c = search needs
+
+returns-2 : tie.Need-returns-2 Inv-loop μ-loop
+returns-2 c scheme p =
+    let l = c .before .before .before .before .before in
+    sym (l .before .before .loop .inv .0 scheme p ∙ matches-bad _ _ _ _ _ _ (l .lowest .ensures) (λ s. c .if2 .taken (s .1 ∙ sym (own l scheme p))))
+
+without-lowest-requires : tie.Need-without-lowest-requires Inv-loop μ-loop
+without-lowest-requires c κs = search needs
+
+loop-less : tie.Need-loop-less Inv-loop μ-loop
+loop-less c =
+    let l = c .before .before .before .before .before .before in
+    rw (c .without-lowest .ensures _ (l .lowest .ensures)) (bit-fewer _ _ (l .lowest .ensures))
+
+loop-again : tie.Need-loop-again Inv-loop μ-loop
+loop-again c =
+    let l = c .before .before .before .before .before .before in
+    let v = l .before .before .loop .inv in
+    let e = c .before .if2 .left in
+    rw (c .without-lowest .ensures _ (l .lowest .ensures)) (
+      λ scheme p.
+          v .0 scheme p ∙ matches-more _ _ _ _ _ _ (l .lowest .ensures) (omega (arith, e, c .before .before .before .if1 .left), e ∙ own l scheme p),
+      under-less _ _ (l .lowest .ensures) _ (v .1),
+    )
+
+returns-3 : tie.Need-returns-3 Inv-loop μ-loop
+returns-3 c scheme p = sym (c .before .loop .inv .0 scheme p ∙ rw (c .loop-test .left) (matches-none _ _ _ _))
+
+pub fits-placed-spec : {M : Type 1} → statement M
+fits-placed-spec =
+    tie.close
+    (tie.spec
+    Inv-loop
+    μ-loop
+    loop-holds
+    lowest-requires
+    element-copy-out-code
+    cast-code
+    add-code
+    mul-code
+    shared-slice-read-code
+    returns
+    mul-if2
+    element-copy-out-if2
+    returns-2
+    without-lowest-requires
+    loop-less
+    loop-again
+    returns-3)
