@@ -1,6 +1,7 @@
 pub mod MatchLaws
 pub mod MergedLaws
 pub mod RowTestLaws
+pub mod ClosedLaws
 pub mod Rounds
 pub mod Dropping
 pub mod Joining

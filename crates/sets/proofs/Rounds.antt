@@ -141,7 +141,7 @@ module _ (cat : Catalogue) (cells : List ℕ) (lent : ℕ) (L : Lawful cat lent)
         ap size (in-with bitsPerRow (cat .n) key t (suc i) l small) ∙ size-set (setOf cat key) t (suc i) (rw (in-length bitsPerRow (cat .n) key) l) new (omega arith) in
         omega (arith, e, size-le (setOf cat (withRow bitsPerRow key t (suc i))), in-length bitsPerRow (cat .n) (withRow bitsPerRow key t (suc i)))
 
-    one-more : OneMore (at (setOf cat key)) (at (setOf cat (withRow bitsPerRow key t (suc i)))) t (suc i)
+    pub one-more : OneMore (at (setOf cat key)) (at (setOf cat (withRow bitsPerRow key t (suc i)))) t (suc i)
     one-more =
         record {
           low = omega arith;

@@ -28,7 +28,7 @@ use Rattle.disjunction.proofs.RowTests.{near-iff, rowTest-iff, rowTest-absent}
 use Rattle.rows.specs.World.{worldOf}
 use Rattle.rows.proofs.WorldLaws.{touch-iff}
 use Rattle.sets.specs.Merged.{Attributes, Merged, matches, rowIn}
-use Rattle.sets.specs.Promises.{FirstIn}
+use Rattle.sets.specs.Promises.{FirstIn, NoneIn}
 use Rattle.sets.proofs.MergedLaws.{matches-fits}
 
 -- ---- the row test
@@ -84,8 +84,11 @@ module _ (cat : Catalogue) (cells : List ℕ) where
 
 -- ---- the first that passes
 
+pub first-all : (k : ℕ) (ok : ℕ → Bool) → NoneIn k ok → FirstIn k ok k
+first-all k ok h = record { within = omega arith; before = h; found = λ l. absurd (omega arith) }
+
 pub first-none : (k : ℕ) (ok : ℕ → Bool) → ((i : ℕ) → ok i ≡ false) → FirstIn k ok k
-first-none k ok h = record { within = omega arith; before = λ i l. h i; found = λ l. absurd (omega arith) }
+first-none k ok h = first-all k ok (λ i l. h i)
 
 pub first-same : (k : ℕ) (ok ok′ : ℕ → Bool) (r : ℕ) → ((i : ℕ) → ok i ≡ ok′ i) → FirstIn k ok′ r → FirstIn k ok r
 first-same k ok ok′ r e f = record { within = f .within; before = λ i l. e i ∙ f .before i l; found = λ l. e r ∙ f .found l }

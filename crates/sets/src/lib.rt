@@ -1,12 +1,14 @@
 // Row sets as keys: the row test by the set's merged row, the extension, and the set that a trial comes to.
 ghost use mathlib.Core.Path.{_≡_};
+ghost use mathlib.Core.Bool.{true};
 ghost use mathlib.Core.List.{List};
 ghost use Prim.Native.Nat.{ℕ, _+_, _-_, _*_, _^_, _≤_, _<_};
 ghost use lib.ListN.{length};
 ghost use lib.Bits.{bitAnd, bitOr};
 ghost use lib.Count.{ones};
+ghost use Rattle.words.specs.Words.{bitOf};
 ghost use Rattle.keys.specs.Keys.{bitsPerRow};
-ghost use Rattle.tables.specs.Sizes.{mostRows, mostCells};
+ghost use Rattle.tables.specs.Sizes.{mostTables, mostRows, mostCells};
 ghost use Rattle.tables.specs.Catalogues.{countOf, firstCell};
 ghost use Rattle.tables.specs.Checks.{Lawful};
 ghost use Rattle.disjunction.specs.Sets.{at};
@@ -14,7 +16,7 @@ ghost use Rattle.disjunction.specs.Rule.{extension, dropped, piece, trial};
 ghost use Rattle.rows.specs.World.{worldOf, setOf, placeOf};
 ghost use Rattle.rows.specs.Named.{Named, There};
 ghost use Rattle.sets.specs.Merged.{mergedLength, Under, Attributes, Merged, matches, joint, Joined, Added, rowIn, only};
-ghost use Rattle.sets.specs.Promises.{FirstIn, tested, KeyFor, Comes, parts, joinsIn};
+ghost use Rattle.sets.specs.Promises.{FirstIn, NoneIn, tested, closes, KeyFor, Comes, parts, joinsIn};
 use tables::Catalogue;
 use tables::Row;
 
@@ -143,7 +145,7 @@ fn first_fit(
 }
 
 // The first row of table t, from 0, that the row test admits; their number where it admits none. The table's cells begin at `base`.
-// A table that is present, or that shares no attribute with the set, is passed over whole.
+// A table that is closed or present, or that shares no attribute with the set, is passed over whole.
 fn find_in(
     cat: Catalogue,
     cells: &[u64],
@@ -151,12 +153,16 @@ fn find_in(
     t: usize,
     base: usize,
     attrs: u64,
+    closed: u64,
     merged: &[u64; 64],
 ) -> usize
-    requires { ⌜ Lawful cat (length (now cells)) × (t < cat .n) × (base ≡ firstCell cat t) × Merged cat (now cells) (at (setOf cat key)) (now merged) attrs ⌝ }
+    requires { ⌜ Lawful cat (length (now cells)) × (t < cat .n) × (base ≡ firstCell cat t) × Merged cat (now cells) (at (setOf cat key)) (now merged) attrs × (bitOf closed t ≡ true → NoneIn (countOf cat t) (tested cat (now cells) key t)) ⌝ }
     ensures { λ r. ⌜ FirstIn (countOf cat t) (tested cat (now (cells .entry)) key t) r ⌝ }
 {
     let count = cat.rows[t] as usize;
+    if words::bit_of(closed, t) {
+        return count;
+    }
     if keys::row_of(key, t) != 0 {
         return count;
     }
@@ -166,6 +172,19 @@ fn find_in(
         return count;
     }
     first_fit(cells, scheme, base, count, shared, merged)
+}
+
+// The closed tables, after table t was walked without a fit to a set with the attributes `attrs`: where it shares one of them, it is closed too.
+// A row that shares an attribute with the set and does not fit it never fits it later, since the set only grows.
+fn close_if(cat: Catalogue, t: usize, attrs: u64, closed: u64) -> u64
+    requires { ⌜ t < mostTables ⌝ }
+    ensures { λ r. ⌜ ((u : ℕ) → bitOf r u ≡ closes cat t attrs closed u) ⌝ }
+{
+    let common = cat.schemes[t] & attrs;
+    if common != 0 {
+        return closed | (1 << t);
+    }
+    closed
 }
 
 // "A round tests rows in row order from the first. The first yes is added and a new round begins; a round without yes ends it."
@@ -179,6 +198,7 @@ pub fn extend(cat: Catalogue, cells: &[u64], from: u64) -> Grown
     let mut attrs = merge_set(cat, cells, from, &mut merged);
     let mut key = from;
     let mut tests: usize = 0;
+    let mut closed: u64 = 0;
     'rounds: loop {
         let mut base: usize = 0;
         let mut t: usize = 0;
@@ -187,13 +207,14 @@ pub fn extend(cat: Catalogue, cells: &[u64], from: u64) -> Grown
                 break 'rounds;
             }
             let count = cat.rows[t] as usize;
-            let i = find_in(cat, cells, key, t, base, attrs, &merged);
+            let i = find_in(cat, cells, key, t, base, attrs, closed, &merged);
             if i < count {
                 let row = i + 1;
                 tests = tests + row;
                 break Row { table: t, row };
             }
             tests = tests + count;
+            closed = close_if(cat, t, attrs, closed);
             base = base + count * tables::width(cat.schemes[t]);
             t += 1;
         };
