@@ -42,7 +42,7 @@ fn fits_merged(cells: &[u64], scheme: u64, start: usize, shared: u64, merged: &[
         if merged[a] != code {
             return false;
         }
-        rest = words::without(rest, a);
+        rest = words::without_lowest(rest);
     }
     true
 }
@@ -74,7 +74,7 @@ fn merge_row(cells: &[u64], scheme: u64, start: usize, attrs: u64, merged: &mut 
         let seen = words::bit_of(attrs, a);
         let old = merged[a];
         merged[a] = join_code(seen, old, code);
-        rest = words::without(rest, a);
+        rest = words::without_lowest(rest);
     }
 }
 

@@ -1,13 +1,15 @@
 -- "The catalogue is one record with m, n, and eight schemes and eight row counts." What it says of each table, where a row's cells lie and the
 -- order of the rows. What follows from these stands in proofs/CatalogueLaws. Assumes nothing.
-use Prim.Native.Nat.{ℕ, zero, suc, _+_, _-_, _*_, _%_, _^_}
+use Prim.Native.Nat.{ℕ, zero, suc, _+_, _-_, _*_, _%_, _^_, _<_}
+use mathlib.Core.Path.{_≡_}
 use mathlib.Core.Bool.{cond}
 use mathlib.Core.List.{List}
-use lib.ListN.{getD}
+use lib.ListN.{length, getD}
 use lib.Count.{ones}
 use lib.Dec.{ltb}
 use Rattle.tables.specs.declared.Catalogue.{Catalogue}
 use Rattle.tables.specs.declared.Row.{Row}
+use Rattle.tables.specs.Sizes.{mostTables}
 
 -- The scheme of table t.
 abbrev pub schemeOf : Catalogue → ℕ → ℕ
@@ -22,6 +24,11 @@ countOf cat t = getD (cat .rows) t 0
 unfoldable pub firstCell : Catalogue → ℕ → ℕ
 firstCell cat zero = 0
 firstCell cat (suc t) = firstCell cat t + countOf cat t * ones (schemeOf cat t)
+
+-- "Rows lie one after the other, table by table": where the cells of each table begin, in a list with a place for each table there can be.
+pub record FirstCells (cat : Catalogue) (firsts : List ℕ) : Type 0 where
+  pub long : length firsts ≡ mostTables
+  pub each : (t : ℕ) → t < cat .n → getD firsts t 0 ≡ firstCell cat t
 
 -- Where the cells of row r of table t begin; rows are numbered from 1.
 unfoldable pub rowStart : Catalogue → ℕ → ℕ → ℕ

@@ -3,7 +3,7 @@ ghost use mathlib.Core.Path.{_≡_};
 ghost use Prim.Native.Nat.{_%_, _^_, _≤_, _<_};
 ghost use lib.Count.{ones};
 ghost use Rattle.tables.specs.Sizes.{mostCells};
-ghost use Rattle.tables.specs.Catalogues.{countOf, firstCell, rowStart, total, rowAt};
+ghost use Rattle.tables.specs.Catalogues.{countOf, firstCell, FirstCells, rowStart, total, rowAt};
 ghost use Rattle.tables.specs.Checks.{sizeFault, badScheme, countFault, tableFault, catalogueFault, Lawful};
 
 // "One record with m, n, and eight schemes and eight row counts"; entries from n on are ignored.
@@ -157,6 +157,24 @@ pub fn first_cell(cat: Catalogue, table: usize) -> usize
         t = t + 1;
     }
     at
+}
+
+// Where the cells of each table begin; entries from n on are 0.
+// Worked out once, it serves every row that is read.
+pub fn first_cells(cat: Catalogue) -> [usize; 8]
+    requires { ⌜ Lawful cat mostCells ⌝ }
+    ensures { λ r. ⌜ FirstCells cat r ⌝ }
+{
+    let n = cat.n;
+    let mut firsts: [usize; 8] = [0; 8];
+    let mut at: usize = 0;
+    let mut t: usize = 0;
+    while t < n {
+        firsts[t] = at;
+        at = at + (cat.rows[t] as usize) * width(cat.schemes[t]);
+        t = t + 1;
+    }
+    firsts
 }
 
 // Where the cells of a row begin.

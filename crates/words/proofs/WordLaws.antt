@@ -1,4 +1,4 @@
--- The laws of a word's bits: what tells two words apart, the bits of `&` and `|`, the lowest set bit, a bit taken away. Assumes nothing.
+-- The laws of a word's bits: what tells two words apart, the bits of `&` and `|`, the lowest set bit, a bit taken away, the lowest one by a mask. Assumes nothing.
 use Prim.Native.Nat.{ℕ, zero, suc, _+_, _-_, _*_, _/_, _%_, _^_, _≤_, _<_}
 use mathlib.Core.Path.{_≡_, refl, sym, ap, ap₂, subst, _∙_}
 use mathlib.Core.Bool.{Bool, true, false, not, _&&_, _||_, true≢false}
@@ -6,12 +6,12 @@ use mathlib.Core.Logic.{_≢_, ⊎-elim}
 use native.Mathlib.Omega.{arith}
 use native.Mathlib.Decide.{decLt}
 use native.Mathlib.Numerals.{add-one}
-use native.Mathlib.Nat.{mod-lt, zero-div, pow-suc, pow-zero, mul-suc, mul-zero, suc-mul, div-eq-of-lt, div-self, lt-of-lt-of-le}
+use native.Mathlib.Nat.{mod-lt, min-zero, zero-div, pow-suc, pow-zero, mul-suc, mul-zero, suc-mul, div-eq-of-lt, div-self, lt-of-lt-of-le}
 use lib.Arith.{lt-one}
-use lib.Bits.{bitAnd, bitOr, and-shr, and-mod, and-lt, or-shr, or-mod}
+use lib.Bits.{bitAnd, bitOr, and-step, and-zero-l, and-self, and-block, and-shr, and-mod, and-lt, or-shr, or-mod}
 use lib.Count.{trailingZeros, under}
 use lib.Dec.{eqb}
-use lib.Pow.{pow-add, pow-pos, pow-mono, split, high, low, field, mod-mod-pow, recompose, shr-shr, shr-lt}
+use lib.Pow.{pow-add, pow-pos, ones-lt, pow-mono, split, high, low, field, mod-mod-pow, recompose, shr-shr, shr-lt}
 use borrow.Author.Tests.{eqb-true, eq-eqb, ne-eqb}
 use Rattle.laws.specs.Tests.{any}
 use Rattle.laws.proofs.TestLaws.{which, clash, any-some, any-of}
@@ -218,6 +218,33 @@ module _ (k a : ℕ) (h : bitOf k a ≡ true) where
       go : Dec (d < a) → bitOf (k - 2 ^ a) d ≡ bitOf k d
       go (yes l) = kept-below d l
       go (no g) = kept-above d (omega (arith, n))
+
+-- ---- the lowest bit taken away by a mask
+
+-- Below the lowest set bit there is nothing.
+pub lowest-low : (w k a : ℕ) → LowestBit w k a → k % 2 ^ a ≡ 0
+lowest-low w k a x =
+    bits-eq a (k % 2 ^ a) 0 (mod-lt k (pow-pos a)) (pow-pos a) (λ d l. bit-low k a d l ∙ x .below d l ∙ sym (zero-bit d))
+
+-- A word and its even part have the even part in common.
+even-part : (q : ℕ) → bitAnd q (q / 2 * 2) ≡ q / 2 * 2
+even-part q =
+    let e : q / 2 * 2 % 2 ≡ 0 = omega arith in
+    let f : q / 2 * 2 / 2 ≡ q / 2 = omega arith in
+    and-step q (q / 2 * 2) ∙ rw (e, f, and-self (q / 2), min-zero (q % 2)) (omega arith)
+
+-- The word less 1 has the bits above the lowest one, not that one, and all below it.
+pub masked-lowest : (w k a : ℕ) → LowestBit w k a → bitAnd k (k - 1) ≡ k - 2 ^ a
+masked-lowest w k a x =
+    let q : ℕ = k / 2 ^ a in
+    let z : k % 2 ^ a ≡ 0 = lowest-low w k a x in
+    let whole : k ≡ q * 2 ^ a + 0 = omega (arith, split k a) in
+    let less : k - 1 ≡ q / 2 * 2 * 2 ^ a + (2 ^ a - 1) = omega (arith, less-bit k a (x .itself), pow-pos a) in
+    let gone : q / 2 * 2 * 2 ^ a + 0 ≡ k - 2 ^ a = omega (arith, less-bit k a (x .itself)) in
+    ap₂ bitAnd whole less
+    ∙ and-block a q (q / 2 * 2) 0 (2 ^ a - 1) (pow-pos a) (ones-lt a)
+    ∙ ap₂ (λ (m n : ℕ). m * 2 ^ a + n) (even-part q) (and-zero-l (2 ^ a - 1))
+    ∙ gone
 
 -- ---- one bit alone
 

@@ -40,20 +40,20 @@ returns-2 c =
     let l = d .before in
     sym (l .before .before .loop .inv .0 ∙ matches-bad _ _ _ _ _ _ (l .lowest .ensures) (λ s. c .if2 .taken (s .1 ∙ sym (d .code-at .ensures))))
 
-without-requires : tie.Need-without-requires Inv-loop μ-loop
-without-requires c κs = search needs
+without-lowest-requires : tie.Need-without-lowest-requires Inv-loop μ-loop
+without-lowest-requires c κs = search needs
 
 loop-less : tie.Need-loop-less Inv-loop μ-loop
 loop-less c =
     let l = c .before .before .before .before .before in
-    rw (c .without .ensures) (bit-fewer _ _ (l .lowest .ensures))
+    rw (c .without-lowest .ensures _ (l .lowest .ensures)) (bit-fewer _ _ (l .lowest .ensures))
 
 loop-again : tie.Need-loop-again Inv-loop μ-loop
 loop-again c =
     let d = c .before .before .before .before in
     let l = d .before in
     let v = l .before .before .loop .inv in
-    rw (c .without .ensures) (
+    rw (c .without-lowest .ensures _ (l .lowest .ensures)) (
       v .0
           ∙ matches-more _ _ _ _ _ _ (l .lowest .ensures) (omega (arith, c .before .if2 .left, c .before .before .before .if1 .left), c .before .if2 .left ∙ d .code-at .ensures),
       under-less _ _ (l .lowest .ensures) _ (v .1),
@@ -75,7 +75,7 @@ fits-merged-spec =
     mul-if2
     element-copy-out-if2
     returns-2
-    without-requires
+    without-lowest-requires
     loop-less
     loop-again
     returns-3)

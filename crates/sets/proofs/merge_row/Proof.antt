@@ -37,19 +37,19 @@ mul-merged c = search needs
 element-write-merged : tie.Need-element-write-merged Inv-loop μ-loop
 element-write-merged c = search needs
 
-without-requires : tie.Need-without-requires Inv-loop μ-loop
-without-requires c κs = search needs
+without-lowest-requires : tie.Need-without-lowest-requires Inv-loop μ-loop
+without-lowest-requires c κs = search needs
 
 loop-less : tie.Need-loop-less Inv-loop μ-loop
 loop-less c =
     let l = c .before .before .before .before .before in
-    rw (c .without .ensures) (bit-fewer _ _ (l .lowest .ensures))
+    rw (c .without-lowest .ensures _ (l .lowest .ensures)) (bit-fewer _ _ (l .lowest .ensures))
 
 loop-again : tie.Need-loop-again Inv-loop μ-loop
 loop-again c =
     let d = c .before .before .before .before in
     let l = d .before in
-    rw (c .without .ensures)
+    rw (c .without-lowest .ensures _ (l .lowest .ensures))
     (merge-next _ _ _ _ _ _ _ _ _ (l .before .before .loop .inv) (l .lowest .ensures)
     (rw (← c .before .before .before .bit-of .ensures, ← d .code-at .ensures) (c .before .join-code .ensures)))
 
@@ -71,7 +71,7 @@ merge-row-spec =
     join-code-requires
     mul-merged
     element-write-merged
-    without-requires
+    without-lowest-requires
     loop-less
     loop-again
     returns)
