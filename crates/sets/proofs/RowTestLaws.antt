@@ -17,11 +17,9 @@ use Rattle.laws.specs.Tests.{any}
 use Rattle.laws.proofs.TestLaws.{clash, not-yes, iff-eq, and-split, and-join, any-some, any-of}
 use Rattle.words.specs.Words.{bitOf}
 use Rattle.words.proofs.WordLaws.{shares-any}
-use Rattle.tables.specs.Sizes.{mostCells}
 use Rattle.tables.specs.declared.Catalogue.{Catalogue}
-use Rattle.tables.specs.Catalogues.{schemeOf, countOf, firstCell, rowStart}
+use Rattle.tables.specs.Catalogues.{schemeOf, firstCell, rowStart}
 use Rattle.tables.specs.Checks.{Lawful}
-use Rattle.tables.proofs.CatalogueLaws.{cells-next, table-ends}
 use Rattle.disjunction.specs.Sets.{at}
 use Rattle.disjunction.specs.Rule.{Place, near, Agrees, rowTest}
 use Rattle.disjunction.proofs.RowTests.{near-iff, rowTest-iff, rowTest-absent}
@@ -108,11 +106,3 @@ start-inside base scheme i k lent l h = omega (arith, suc-mul i (ones scheme), m
 pub start-of : (cat : Catalogue) (t r base : ℕ) → base ≡ firstCell cat t → rowIn base (schemeOf cat t) (r - 1) ≡ rowStart cat t r
 unfolding rowStart
 start-of cat t r base e = rw e
-
--- The cells of a table end within the cells, so that where the next table begins does not wrap.
-pub table-room : (cat : Catalogue) (lent : ℕ) → Lawful cat lent → (t base w : ℕ) → t < cat .n → base ≡ firstCell cat t → w ≡ ones (schemeOf cat t)
-    → base + countOf cat t * w ≤ mostCells
-table-room cat lent L t base w l e f = rw (e, f) (omega (arith, table-ends cat lent L t l, L .cells))
-
-pub table-next : (cat : Catalogue) (t base w : ℕ) → base ≡ firstCell cat t → w ≡ ones (schemeOf cat t) → base + countOf cat t * w ≡ firstCell cat (t + 1)
-table-next cat t base w e f = rw (e, f) (sym (cells-next cat t))
