@@ -3,13 +3,13 @@ use Prim.Native.Nat.{ℕ}
 use native.Mathlib.Omega.{arith}
 use native.Mathlib.Nat.{eq-zero-or-pos}
 use mathlib.Core.Path.{_≡_}
-use mathlib.Core.Logic.{⊎-elim, _↔_}
-use mathlib.Core.Bool.{true, _&&_, _||_}
+use mathlib.Core.Logic.{_⊎_, inl, inr, ⊎-elim, _↔_}
+use mathlib.Core.Bool.{true, false, _&&_, _||_}
 use mathlib.Core.List.{List}
 use lib.ListN.{length}
 use borrow.Author.Tests.{ltb-true, lt-ltb, eqb-true, eq-eqb}
-use Rattle.laws.proofs.TestLaws.{and-split, and-join, or-case, or-left, or-right, any-some, any-of, all-each, all-of}
-use Rattle.disjunction.specs.Sets.{Tables, at, Member}
+use Rattle.laws.proofs.TestLaws.{clash, not-yes, and-split, and-join, or-case, or-left, or-right, any-some, any-of, all-each, all-of}
+use Rattle.disjunction.specs.Sets.{Tables, at, Member, Within}
 use Rattle.disjunction.specs.Rule.{Place, member, absent, near, Near, agrees, Agrees, rowTest, Addable, joins, Joinable}
 use Rattle.disjunction.proofs.RowSets.{member-table}
 
@@ -76,3 +76,35 @@ module _ (W : Tables) where
   rowTest-absent T p h =
       let x = and-split (absent T (p .table) && near W T p) (agrees W T p) h in
       absent-iff T (p .table) .0 (and-split (absent T (p .table)) (near W T p) (x .0) .0)
+
+  -- ---- a row that is out of the question
+
+  -- The row's table is present, or the row is not consistent with every member: no row test admits it, on T or on any set that contains T.
+  abbrev pub Lost : List ℕ → Place → Type 0
+  Lost T p = Member T (p .table) ⊎ (agrees W T p ≡ false)
+
+  module _ (T : List ℕ) (p : Place) (long : length T ≡ W .n) where
+    pub lost-test : Lost T p → rowTest W T p ≡ false
+    lost-test l =
+        not-yes (rowTest W T p)
+        (λ y.
+        let a = rowTest-iff T p long .0 y in
+        ⊎-elim (λ m. absurd (omega (arith, a .absent))) (λ e. clash (agrees-iff T p long .1 (a .agrees)) e) l)
+
+    -- A row that shares an attribute with a member and gets no yes.
+    pub test-lost : near W T p ≡ true → rowTest W T p ≡ false → Lost T p
+    test-lost n e =
+        ⊎-elim
+        (λ z. inr (not-yes (agrees W T p) (λ y. clash (rowTest-iff T p long .1 (record { absent = z; near = near-iff T p long .0 n; agrees = agrees-iff T p long .0 y })) e)))
+        (λ m. inl m)
+        (eq-zero-or-pos (at T (p .table)))
+
+    pub lost-within : (U : List ℕ) → length U ≡ W .n → Within T U → Lost T p → Lost U p
+    lost-within U long′ w l =
+        ⊎-elim
+        (λ m. inl (rw (w (p .table) m) m))
+        (λ e.
+        inr
+        (not-yes (agrees W U p)
+        (λ y. clash (agrees-iff T p long .1 (λ u m. rw (w u m) at (agrees-iff U p long′ .0 y u (rw (w u m) m)))) e)))
+        l

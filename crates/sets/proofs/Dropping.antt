@@ -126,23 +126,20 @@ module _ (cat : Catalogue) (lent : ℕ) (L : Lawful cat lent) (key u q base w : 
 
 -- ---- table by table
 
--- The rows of tables below u are those that the drop leaves, the others still those of T with s; the cells of table u begin at `base`.
-pub record Keeping (cat : Catalogue) (cells : List ℕ) (key : ℕ) (s : Place) (all base u : ℕ) : Type 0 where
+-- The rows of tables below u are those that the drop leaves, the others still those of T with s.
+pub record Keeping (cat : Catalogue) (cells : List ℕ) (key : ℕ) (s : Place) (all u : ℕ) : Type 0 where
   pub turn : u ≤ cat .n
-  pub place : base ≡ firstCell cat u
   pub low : all < 2 ^ (bitsPerRow * cat .n)
   pub done : (v : ℕ) → v < u → v < cat .n → rowOf bitsPerRow all v ≡ at (dropped (worldOf cat cells) (setOf cat key) s) v
   pub rest : (v : ℕ) → u ≤ v → v < cat .n → rowOf bitsPerRow all v ≡ at (addRow (setOf cat key) s) v
 
 module _ (cat : Catalogue) (cells : List ℕ) (key : ℕ) (s : Place) (l : s .table < cat .n) where
   pub keep-start : (all : ℕ) → all ≡ withRow bitsPerRow key (s .table) (s .row) → s .row < 2 ^ bitsPerRow → key < 2 ^ (bitsPerRow * cat .n)
-      → Keeping cat cells key s all 0 0
-  unfolding firstCell
+      → Keeping cat cells key s all 0
   keep-start all e small low =
       rw e
       (record {
         turn = omega arith;
-        place = refl;
         low = with-lt bitsPerRow (cat .n) key (s .table) (s .row) l small low;
         done = λ v b m. absurd (omega arith);
         rest = λ v b m.
@@ -150,15 +147,13 @@ module _ (cat : Catalogue) (cells : List ℕ) (key : ℕ) (s : Place) (l : s .ta
             ∙ ap (λ (X : List ℕ). at X v) (in-with bitsPerRow (cat .n) key (s .table) (s .row) l small);
       })
 
-  module _ (all base u : ℕ) (k : Keeping cat cells key s all base u) (b : u < cat .n) (y : Bool) (p : y ≡ parts (worldOf cat cells) (setOf cat key) s u)
-      (base′ : ℕ) (next : base′ ≡ firstCell cat (u + 1)) where
+  module _ (all u : ℕ) (k : Keeping cat cells key s all u) (b : u < cat .n) (y : Bool) (p : y ≡ parts (worldOf cat cells) (setOf cat key) s u) where
     -- Table u is as the drop leaves it, and the others as they were.
     keep-next : (all′ : ℕ) → all′ < 2 ^ (bitsPerRow * cat .n) → rowOf bitsPerRow all′ u ≡ cond y 0 (at (addRow (setOf cat key) s) u)
-        → ((v : ℕ) → v ≢ u → rowOf bitsPerRow all′ v ≡ rowOf bitsPerRow all v) → Keeping cat cells key s all′ base′ (u + 1)
+        → ((v : ℕ) → v ≢ u → rowOf bitsPerRow all′ v ≡ rowOf bitsPerRow all v) → Keeping cat cells key s all′ (u + 1)
     keep-next all′ low here others =
         record {
           turn = omega arith;
-          place = next;
           low = low;
           done = λ v c m. go v c m (ℕ-discrete v u);
           rest = λ v c m. others v (λ (q : v ≡ u). omega arith) ∙ k .rest v (omega arith) m;
@@ -169,18 +164,18 @@ module _ (cat : Catalogue) (cells : List ℕ) (key : ℕ) (s : Place) (l : s .ta
             rw q (here ∙ sym (dropped-parts (worldOf cat cells) (setOf cat key) s (in-length bitsPerRow (cat .n) key) l u b ∙ rw (← p)))
         go v c m (no g) = others v g ∙ k .done v (omega (arith, g)) m
 
-    pub keep-stay : y ≡ false → Keeping cat cells key s all base′ (u + 1)
+    pub keep-stay : y ≡ false → Keeping cat cells key s all (u + 1)
     keep-stay e = keep-next all (k .low) (rw e (k .rest u (omega arith) b)) (λ v q. refl)
 
-    pub keep-gone : y ≡ true → (all′ : ℕ) → all′ ≡ withRow bitsPerRow all u 0 → Keeping cat cells key s all′ base′ (u + 1)
+    pub keep-gone : y ≡ true → (all′ : ℕ) → all′ ≡ withRow bitsPerRow all u 0 → Keeping cat cells key s all′ (u + 1)
     keep-gone e all′ f =
         rw f
         (keep-next (withRow bitsPerRow all u 0) (with-lt bitsPerRow (cat .n) all u 0 b (pow-pos bitsPerRow) (k .low))
         (rw e (row-same bitsPerRow all u 0 (pow-pos bitsPerRow)))
         (λ v q. row-other bitsPerRow all u 0 v (pow-pos bitsPerRow) q))
 
-  pub keep-end : (all base u : ℕ) → Keeping cat cells key s all base u → cat .n ≤ u → KeyFor cat (dropped (worldOf cat cells) (setOf cat key) s) all
-  keep-end all base u k b =
+  pub keep-end : (all u : ℕ) → Keeping cat cells key s all u → cat .n ≤ u → KeyFor cat (dropped (worldOf cat cells) (setOf cat key) s) all
+  keep-end all u k b =
       record {
         low = k .low;
         rows =

@@ -3,6 +3,7 @@ pub mod CursorLaws
 pub mod MergedLaws
 pub mod RowTestLaws
 pub mod PlaceLaws
+pub mod ClosedLaws
 pub mod Rounds
 pub mod Dropping
 pub mod Joining

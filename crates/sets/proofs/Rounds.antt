@@ -7,16 +7,15 @@ use native.Mathlib.Omega.{arith}
 use native.Mathlib.Nat.{mul-le-mul, zero-add}
 use native.Mathlib.Decide.{decLt}
 use lib.ListN.{length, getD}
-use lib.Count.{ones}
 use lib.Seq.{getD-set-other}
 use Rattle.keys.specs.Keys.{bitsPerRow, withRow, keyOf}
 use Rattle.keys.proofs.KeyLaws.{row-same}
 use Rattle.keys.proofs.SetLaws.{in-length, in-at, in-with}
 use Rattle.tables.specs.Sizes.{mostTables, mostRows}
 use Rattle.tables.specs.declared.Catalogue.{Catalogue}
-use Rattle.tables.specs.Catalogues.{schemeOf, countOf, firstCell, rowStart, rowsBefore}
+use Rattle.tables.specs.Catalogues.{schemeOf, countOf, rowStart, rowsBefore}
 use Rattle.tables.specs.Checks.{Lawful}
-use Rattle.tables.proofs.CatalogueLaws.{cells-next, rows-next, rows-few}
+use Rattle.tables.proofs.CatalogueLaws.{rows-next, rows-few}
 use Rattle.disjunction.specs.Sets.{Tables, at, size}
 use Rattle.disjunction.specs.Rule.{Place, hit, miss, walk, Grown, rows, rowTest, extension}
 use Rattle.disjunction.proofs.RowSets.{size-le, size-set}
@@ -38,10 +37,9 @@ use Rattle.sets.proofs.MergedLaws.{OneMore, merged-add}
 abbrev none : Place
 none = record { table = 0; row = 0 }
 
--- The rows of the tables below t are tested, in c tests, and none may be added; the cells of table t begin at `base`.
-pub record Passed (cat : Catalogue) (cells T : List ℕ) (t base c : ℕ) : Type 0 where
+-- The rows of the tables below t are tested, in c tests, and none may be added.
+pub record Passed (cat : Catalogue) (cells T : List ℕ) (t c : ℕ) : Type 0 where
   pub turn : t ≤ cat .n
-  pub place : base ≡ firstCell cat t
   pub count : c ≡ rowsBefore cat t
   pub clear : (j : ℕ) → j < rowsBefore cat t → rowTest (worldOf cat cells) T (getD (rows (worldOf cat cells)) j none) ≡ false
 
@@ -57,15 +55,15 @@ module _ (cat : Catalogue) (cells : List ℕ) where
   place-inside t i l h = omega (arith, rowsBelow-mono W (cat .n) t l, rows-before cat cells t)
 
   module _ (T : List ℕ) where
-    pub passed-none : Passed cat cells T 0 0 0
-    unfolding firstCell rowsBefore
-    passed-none = record { turn = omega arith; place = refl; count = refl; clear = λ j h. absurd (omega arith) }
+    pub passed-none : Passed cat cells T 0 0
+    unfolding rowsBefore
+    passed-none = record { turn = omega arith; count = refl; clear = λ j h. absurd (omega arith) }
 
     -- i rows of table t more.
-    clear-more : (t base c i : ℕ) → t < cat .n → i ≤ countOf cat t → Passed cat cells T t base c
+    clear-more : (t c i : ℕ) → t < cat .n → i ≤ countOf cat t → Passed cat cells T t c
         → ((q : ℕ) → q < i → rowTest W T (record { table = t; row = suc q }) ≡ false)
         → (j : ℕ) → j < rowsBefore cat t + i → rowTest W T (getD (rows W) j none) ≡ false
-    clear-more t base c i l k p h j b = go (decLt j (rowsBefore cat t))
+    clear-more t c i l k p h j b = go (decLt j (rowsBefore cat t))
       where
         go : Dec (j < rowsBefore cat t) → rowTest W T (getD (rows W) j none) ≡ false
         go (yes e) = p .clear j e
@@ -73,25 +71,24 @@ module _ (cat : Catalogue) (cells : List ℕ) where
             let q : rowsBefore cat t + (j - rowsBefore cat t) ≡ j = omega arith in
             rw (← q, place-of t (j - rowsBefore cat t) l (omega arith)) (h (j - rowsBefore cat t) (omega arith))
 
-    module _ (t base c i : ℕ) (l : t < cat .n) (p : Passed cat cells T t base c) (f : FirstIn (countOf cat t) (λ q. rowTest W T (record { table = t; row = suc q })) i) where
-      pub passed-next : countOf cat t ≤ i → (w : ℕ) → w ≡ ones (schemeOf cat t) → (c′ : ℕ) → c′ ≡ c + countOf cat t → Passed cat cells T (t + 1) (base + countOf cat t * w) c′
-      passed-next b w e c′ more =
+    module _ (t c i : ℕ) (l : t < cat .n) (p : Passed cat cells T t c) (f : FirstIn (countOf cat t) (λ q. rowTest W T (record { table = t; row = suc q })) i) where
+      pub passed-next : countOf cat t ≤ i → (c′ : ℕ) → c′ ≡ c + countOf cat t → Passed cat cells T (t + 1) c′
+      passed-next b c′ more =
           record {
             turn = omega arith;
-            place = rw e (omega (arith, p .place, cells-next cat t));
             count = omega (arith, more, p .count, rows-next cat t);
-            clear = λ j h. clear-more t base c i l (f .within) p (f .before) j (omega (arith, h, rows-next cat t));
+            clear = λ j h. clear-more t c i l (f .within) p (f .before) j (omega (arith, h, rows-next cat t));
           }
 
       pub round-hit : i < countOf cat t → walk (rowTest W T) (rows W) ≡ hit (c + suc i) (record { table = t; row = suc i })
       round-hit b =
           let here = place-of t i l b in
           let n : suc (rowsBefore cat t + i) ≡ c + suc i = omega (arith, p .count) in
-          walk-hit (rowTest W T) (rows W) none (rowsBefore cat t + i) (place-inside t i l b) (clear-more t base c i l (f .within) p (f .before)) (rw here (f .found b))
+          walk-hit (rowTest W T) (rows W) none (rowsBefore cat t + i) (place-inside t i l b) (clear-more t c i l (f .within) p (f .before)) (rw here (f .found b))
           ∙ ap₂ (λ (x : ℕ) (y : Place). hit x y) n here
 
-    pub round-miss : (base c : ℕ) → Passed cat cells T (cat .n) base c → walk (rowTest W T) (rows W) ≡ miss c
-    round-miss base c p =
+    pub round-miss : (c : ℕ) → Passed cat cells T (cat .n) c → walk (rowTest W T) (rows W) ≡ miss c
+    round-miss c p =
         walk-miss (rowTest W T) (rows W) none (λ j h. p .clear j (rw (rows-total cat cells) at h)) ∙ ap (λ (x : ℕ). miss x) (rows-total cat cells ∙ sym (p .count))
 
 -- ---- the rounds
@@ -141,7 +138,7 @@ module _ (cat : Catalogue) (cells : List ℕ) (lent : ℕ) (L : Lawful cat lent)
         ap size (in-with bitsPerRow (cat .n) key t (suc i) l small) ∙ size-set (setOf cat key) t (suc i) (rw (in-length bitsPerRow (cat .n) key) l) new (omega arith) in
         omega (arith, e, size-le (setOf cat (withRow bitsPerRow key t (suc i))), in-length bitsPerRow (cat .n) (withRow bitsPerRow key t (suc i)))
 
-    one-more : OneMore (at (setOf cat key)) (at (setOf cat (withRow bitsPerRow key t (suc i)))) t (suc i)
+    pub one-more : OneMore (at (setOf cat key)) (at (setOf cat (withRow bitsPerRow key t (suc i)))) t (suc i)
     one-more =
         record {
           low = omega arith;
@@ -151,10 +148,10 @@ module _ (cat : Catalogue) (cells : List ℕ) (lent : ℕ) (L : Lawful cat lent)
               ap (λ (T : List ℕ). at T u) (in-with bitsPerRow (cat .n) key t (suc i) l small) ∙ getD-set-other (setOf cat key) t u (suc i) 0 q;
         }
 
-    pub growing-hit : (base c : ℕ) → Passed cat cells (setOf cat key) t base c → (codes′ : List ℕ) (mask′ : ℕ)
+    pub growing-hit : (c : ℕ) → Passed cat cells (setOf cat key) t c → (codes′ : List ℕ) (mask′ : ℕ)
         → Added cells (schemeOf cat t) (rowStart cat t (suc i)) mask codes codes′ mask′
         → Growing cat cells from (withRow bitsPerRow key t (suc i)) mask′ codes′ (tests + (c + suc i))
-    growing-hit base c p codes′ mask′ A =
+    growing-hit c p codes′ mask′ A =
         record {
           named = named-with cat key t (suc i) (G .named) found-there small;
           merged = merged-add cat cells lent L (at (setOf cat key)) (at (setOf cat (withRow bitsPerRow key t (suc i)))) t (suc i) l one-more codes codes′ mask mask′ (G .merged) A;
@@ -164,16 +161,16 @@ module _ (cat : Catalogue) (cells : List ℕ) (lent : ℕ) (L : Lawful cat lent)
         step : extension (W cat cells) (setOf cat key) ≡ later (c + suc i) (extension (W cat cells) (setOf cat (withRow bitsPerRow key t (suc i))))
         step =
             extension-step (W cat cells) (setOf cat key) (in-length bitsPerRow (cat .n) key) (named-size cat cells key (G .named))
-            ∙ rw (round-hit cat cells (setOf cat key) t base c i l p f b, in-with bitsPerRow (cat .n) key t (suc i) l small)
+            ∙ rw (round-hit cat cells (setOf cat key) t c i l p f b, in-with bitsPerRow (cat .n) key t (suc i) l small)
 
         sums : tests + ((c + suc i) + extension (W cat cells) (setOf cat (withRow bitsPerRow key t (suc i))) .tests)
             ≡ (tests + (c + suc i)) + extension (W cat cells) (setOf cat (withRow bitsPerRow key t (suc i))) .tests
         sums = omega arith
 
   -- No row is found.
-  pub growing-end : (key mask : ℕ) (codes : List ℕ) (tests base c : ℕ) → Growing cat cells from key mask codes tests
-      → Passed cat cells (setOf cat key) (cat .n) base c → Comes cat (extension (W cat cells) (setOf cat from)) key (tests + c)
-  growing-end key mask codes tests base c G p =
+  pub growing-end : (key mask : ℕ) (codes : List ℕ) (tests c : ℕ) → Growing cat cells from key mask codes tests
+      → Passed cat cells (setOf cat key) (cat .n) c → Comes cat (extension (W cat cells) (setOf cat from)) key (tests + c)
+  growing-end key mask codes tests c G p =
       record {
         key = sym (named-key cat cells key (G .named)) ∙ ap (keyOf bitsPerRow) set;
         rows = set;
@@ -186,7 +183,7 @@ module _ (cat : Catalogue) (cells : List ℕ) (lent : ℕ) (L : Lawful cat lent)
           G .same
           ∙ ap (later tests)
           (extension-step (W cat cells) (setOf cat key) (in-length bitsPerRow (cat .n) key) (named-size cat cells key (G .named))
-          ∙ rw (round-miss cat cells (setOf cat key) base c p))
+          ∙ rw (round-miss cat cells (setOf cat key) c p))
 
       set : setOf cat key ≡ extension (W cat cells) (setOf cat from) .rows
       set = sym (ap (λ (g : Grown). g .rows) whole)

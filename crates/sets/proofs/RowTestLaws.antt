@@ -17,18 +17,16 @@ use Rattle.laws.specs.Tests.{any}
 use Rattle.laws.proofs.TestLaws.{clash, not-yes, iff-eq, and-split, and-join, any-some, any-of}
 use Rattle.words.specs.Words.{bitOf}
 use Rattle.words.proofs.WordLaws.{shares-any}
-use Rattle.tables.specs.Sizes.{mostCells}
 use Rattle.tables.specs.declared.Catalogue.{Catalogue}
-use Rattle.tables.specs.Catalogues.{schemeOf, countOf, firstCell, rowStart}
+use Rattle.tables.specs.Catalogues.{schemeOf, firstCell, rowStart}
 use Rattle.tables.specs.Checks.{Lawful}
-use Rattle.tables.proofs.CatalogueLaws.{cells-next, table-ends}
 use Rattle.disjunction.specs.Sets.{at}
 use Rattle.disjunction.specs.Rule.{Place, near, Agrees, rowTest}
 use Rattle.disjunction.proofs.RowTests.{near-iff, rowTest-iff, rowTest-absent}
 use Rattle.rows.specs.World.{worldOf}
 use Rattle.rows.proofs.WorldLaws.{touch-iff}
 use Rattle.sets.specs.Merged.{Attributes, Merged, matches, rowIn}
-use Rattle.sets.specs.Promises.{FirstIn}
+use Rattle.sets.specs.Promises.{FirstIn, NoneIn}
 use Rattle.sets.proofs.MergedLaws.{matches-fits}
 
 -- ---- the row test
@@ -84,8 +82,11 @@ module _ (cat : Catalogue) (cells : List ℕ) where
 
 -- ---- the first that passes
 
+pub first-all : (k : ℕ) (ok : ℕ → Bool) → NoneIn k ok → FirstIn k ok k
+first-all k ok h = record { within = omega arith; before = h; found = λ l. absurd (omega arith) }
+
 pub first-none : (k : ℕ) (ok : ℕ → Bool) → ((i : ℕ) → ok i ≡ false) → FirstIn k ok k
-first-none k ok h = record { within = omega arith; before = λ i l. h i; found = λ l. absurd (omega arith) }
+first-none k ok h = first-all k ok (λ i l. h i)
 
 pub first-same : (k : ℕ) (ok ok′ : ℕ → Bool) (r : ℕ) → ((i : ℕ) → ok i ≡ ok′ i) → FirstIn k ok′ r → FirstIn k ok r
 first-same k ok ok′ r e f = record { within = f .within; before = λ i l. e i ∙ f .before i l; found = λ l. e r ∙ f .found l }
@@ -114,11 +115,3 @@ start-inside base w i k lent l h = omega (arith, suc-mul i w, mul-le-mul-right w
 pub start-of : (cat : Catalogue) (t r base : ℕ) → base ≡ firstCell cat t → rowIn base (schemeOf cat t) (r - 1) ≡ rowStart cat t r
 unfolding rowStart
 start-of cat t r base e = rw e
-
--- The cells of a table end within the cells, so that where the next table begins does not wrap.
-pub table-room : (cat : Catalogue) (lent : ℕ) → Lawful cat lent → (t base w : ℕ) → t < cat .n → base ≡ firstCell cat t → w ≡ ones (schemeOf cat t)
-    → base + countOf cat t * w ≤ mostCells
-table-room cat lent L t base w l e f = rw (e, f) (omega (arith, table-ends cat lent L t l, L .cells))
-
-pub table-next : (cat : Catalogue) (t base w : ℕ) → base ≡ firstCell cat t → w ≡ ones (schemeOf cat t) → base + countOf cat t * w ≡ firstCell cat (t + 1)
-table-next cat t base w e f = rw (e, f) (sym (cells-next cat t))

@@ -2,11 +2,14 @@
 -- tables of crate rows. Nothing is asked of the rows of a set together, so that damaged records are determined too. Assumes nothing.
 use Prim.Native.Nat.{ℕ, suc, _*_, _^_, _≤_, _<_}
 use mathlib.Core.Path.{_≡_}
-use mathlib.Core.Bool.{Bool, true, false, not, _&&_}
+use mathlib.Core.Bool.{Bool, true, false, not, _&&_, _||_}
 use mathlib.Core.List.{List, []}
+use lib.Bits.{bitAnd}
 use lib.Dec.{eqb}
+use Rattle.words.specs.Words.{bitOf}
 use Rattle.keys.specs.Keys.{bitsPerRow, keyOf}
 use Rattle.tables.specs.declared.Catalogue.{Catalogue}
+use Rattle.tables.specs.Catalogues.{schemeOf}
 use Rattle.disjunction.specs.Sets.{Tables, at}
 use Rattle.disjunction.specs.Rule.{Place, Grown, rowIn, member, joins, rowTest}
 use Rattle.rows.specs.World.{worldOf, setOf}
@@ -18,9 +21,17 @@ pub record FirstIn (k : ℕ) (ok : ℕ → Bool) (i : ℕ) : Type 0 where
   pub before : (j : ℕ) → j < i → ok j ≡ false
   pub found : i < k → ok i ≡ true
 
+-- None of the numbers below k passes.
+abbrev pub NoneIn : ℕ → (ℕ → Bool) → Type 0
+NoneIn k ok = (i : ℕ) → i < k → ok i ≡ false
+
 -- The row test of row i + 1 of table t, on the set of a key.
 abbrev pub tested : Catalogue → List ℕ → ℕ → ℕ → ℕ → Bool
 tested cat cells key t i = rowTest (worldOf cat cells) (setOf cat key) (record { table = t; row = suc i })
+
+-- Table u is closed, after table t was walked without a fit to a set with the attributes `attrs`: it was before, or it is t, which shares one of them.
+unfoldable pub closes : Catalogue → ℕ → ℕ → ℕ → ℕ → Bool
+closes cat t attrs closed u = bitOf closed u || (not (eqb (bitAnd (schemeOf cat t) attrs) 0) && eqb u t)
 
 -- `key` is the key of the set T.
 pub record KeyFor (cat : Catalogue) (T : List ℕ) (key : ℕ) : Type 0 where

@@ -8,15 +8,15 @@ ghost use lib.Bits.{bitAnd, bitOr};
 ghost use lib.Count.{ones};
 ghost use Rattle.words.specs.Words.{bitOf};
 ghost use Rattle.keys.specs.Keys.{bitsPerRow};
-ghost use Rattle.tables.specs.Sizes.{mostRows, mostCells};
-ghost use Rattle.tables.specs.Catalogues.{countOf, firstCell};
+ghost use Rattle.tables.specs.Sizes.{mostTables, mostRows, mostCells};
+ghost use Rattle.tables.specs.Catalogues.{countOf, firstCell, FirstCells};
 ghost use Rattle.tables.specs.Checks.{Lawful};
 ghost use Rattle.disjunction.specs.Sets.{at};
 ghost use Rattle.disjunction.specs.Rule.{extension, dropped, piece, trial};
 ghost use Rattle.rows.specs.World.{worldOf, setOf, placeOf};
 ghost use Rattle.rows.specs.Named.{Named, There};
 ghost use Rattle.sets.specs.Merged.{mergedLength, Under, Attributes, Merged, matches, joint, Joined, Added, rowIn, only, Places, NextEqual};
-ghost use Rattle.sets.specs.Promises.{FirstIn, tested, KeyFor, Comes, parts, joinsIn};
+ghost use Rattle.sets.specs.Promises.{FirstIn, NoneIn, tested, closes, KeyFor, Comes, parts, joinsIn};
 use tables::Catalogue;
 use tables::Row;
 
@@ -138,22 +138,25 @@ fn merge_add(
 }
 
 // Makes the merged row of a set, and gives its attributes.
-// The first cell of the tables is carried along, so that none is counted twice.
-fn merge_set(cat: Catalogue, cells: &[u64], key: u64, merged: &mut [u64; 64]) -> u64
-    requires { ⌜ Lawful cat (length (now cells)) × Named cat key × (length (now merged) ≡ mergedLength) ⌝ }
+// Each of its rows is read once, from where its table's cells begin.
+fn merge_set(
+    cat: Catalogue,
+    cells: &[u64],
+    firsts: [usize; 8],
+    key: u64,
+    merged: &mut [u64; 64],
+) -> u64
+    requires { ⌜ Lawful cat (length (now cells)) × FirstCells cat firsts × Named cat key × (length (now merged) ≡ mergedLength) ⌝ }
     ensures { λ k. ⌜ Merged cat (now (cells .entry)) (at (setOf cat key)) (now (merged .exit)) k ⌝ }
 {
     let n = cat.n;
     let mut attrs: u64 = 0;
-    let mut base: usize = 0;
     let mut u: usize = 0;
     while u < n {
-        let scheme = cat.schemes[u];
         let r = keys::row_of(key, u) as usize;
         if r != 0 {
-            attrs = merge_add(cells, scheme, base, r, attrs, merged);
+            attrs = merge_add(cells, cat.schemes[u], firsts[u], r, attrs, merged);
         }
-        base = base + (cat.rows[u] as usize) * tables::width(scheme);
         u += 1;
     }
     attrs
@@ -195,7 +198,7 @@ fn first_fit(
 }
 
 // The first row of table t, from 0, that the row test admits; their number where it admits none. The table's cells begin at `base`.
-// A table that is present, or that shares no attribute with the set, is passed over whole.
+// A table that is closed or present, or that shares no attribute with the set, is passed over whole.
 fn find_in(
     cat: Catalogue,
     cells: &[u64],
@@ -203,12 +206,16 @@ fn find_in(
     t: usize,
     base: usize,
     attrs: u64,
+    closed: u64,
     merged: &[u64; 64],
 ) -> usize
-    requires { ⌜ Lawful cat (length (now cells)) × (t < cat .n) × (base ≡ firstCell cat t) × Merged cat (now cells) (at (setOf cat key)) (now merged) attrs ⌝ }
+    requires { ⌜ Lawful cat (length (now cells)) × (t < cat .n) × (base ≡ firstCell cat t) × Merged cat (now cells) (at (setOf cat key)) (now merged) attrs × (bitOf closed t ≡ true → NoneIn (countOf cat t) (tested cat (now cells) key t)) ⌝ }
     ensures { λ r. ⌜ FirstIn (countOf cat t) (tested cat (now (cells .entry)) key t) r ⌝ }
 {
     let count = cat.rows[t] as usize;
+    if words::bit_of(closed, t) {
+        return count;
+    }
     if keys::row_of(key, t) != 0 {
         return count;
     }
@@ -220,38 +227,51 @@ fn find_in(
     first_fit(cells, scheme, base, count, shared, merged)
 }
 
+// The closed tables, after table t was walked without a fit to a set with the attributes `attrs`: where it shares one of them, it is closed too.
+// A row that shares an attribute with the set and does not fit it never fits it later, since the set only grows.
+fn close_if(cat: Catalogue, t: usize, attrs: u64, closed: u64) -> u64
+    requires { ⌜ t < mostTables ⌝ }
+    ensures { λ r. ⌜ ((u : ℕ) → bitOf r u ≡ closes cat t attrs closed u) ⌝ }
+{
+    let common = cat.schemes[t] & attrs;
+    if common != 0 {
+        return closed | (1 << t);
+    }
+    closed
+}
+
 // "A round tests rows in row order from the first. The first yes is added and a new round begins; a round without yes ends it."
 // The tests of a table that is passed over are counted all the same: the count is the rule's.
-pub fn extend(cat: Catalogue, cells: &[u64], from: u64) -> Grown
-    requires { ⌜ Lawful cat (length (now cells)) × Named cat from ⌝ }
+pub fn extend(cat: Catalogue, cells: &[u64], firsts: [usize; 8], from: u64) -> Grown
+    requires { ⌜ Lawful cat (length (now cells)) × FirstCells cat firsts × Named cat from ⌝ }
     ensures { λ e. ⌜ Comes cat (extension (worldOf cat (now (cells .entry))) (setOf cat from)) (e .key) (e .tests) ⌝ }
 {
     let n = cat.n;
     let mut merged: [u64; 64] = [0; 64];
-    let mut attrs = merge_set(cat, cells, from, &mut merged);
+    let mut attrs = merge_set(cat, cells, firsts, from, &mut merged);
     let mut key = from;
     let mut tests: usize = 0;
+    let mut closed: u64 = 0;
     'rounds: loop {
-        let mut base: usize = 0;
         let mut t: usize = 0;
         let found = loop {
             if t == n {
                 break 'rounds;
             }
             let count = cat.rows[t] as usize;
-            let i = find_in(cat, cells, key, t, base, attrs, &merged);
+            let i = find_in(cat, cells, key, t, firsts[t], attrs, closed, &merged);
             if i < count {
                 let row = i + 1;
                 tests = tests + row;
                 break Row { table: t, row };
             }
             tests = tests + count;
-            base = base + count * tables::width(cat.schemes[t]);
+            closed = close_if(cat, t, attrs, closed);
             t += 1;
         };
         let table = found.table;
         let scheme = cat.schemes[table];
-        attrs = merge_add(cells, scheme, base, found.row, attrs, &mut merged);
+        attrs = merge_add(cells, scheme, firsts[table], found.row, attrs, &mut merged);
         key = keys::with_row(key, table, found.row as u64);
     }
     Grown { key, tests }
@@ -293,24 +313,28 @@ fn parted(
 
 // "Drop from T every row of s's table other than s and every row of another table not consistent with s; add s."
 // The row comes in first, and then what does not fit it goes.
-fn kept(cat: Catalogue, cells: &[u64], key: u64, x: Row) -> u64
-    requires { ⌜ Lawful cat (length (now cells)) × Named cat key × There cat (x .table) (x .row) ⌝ }
+fn kept(cat: Catalogue, cells: &[u64], firsts: [usize; 8], key: u64, x: Row) -> u64
+    requires { ⌜ Lawful cat (length (now cells)) × FirstCells cat firsts × Named cat key × There cat (x .table) (x .row) ⌝ }
     ensures { λ k. ⌜ KeyFor cat (dropped (worldOf cat (now (cells .entry))) (setOf cat key) (placeOf x)) k ⌝ }
 {
     let n = cat.n;
     let table = x.table;
     let row = x.row;
-    let first = tables::first_cell(cat, table);
     let mut merged: [u64; 64] = [0; 64];
-    let attrs = merge_add(cells, cat.schemes[table], first, row, 0, &mut merged);
+    let attrs = merge_add(
+        cells,
+        cat.schemes[table],
+        firsts[table],
+        row,
+        0,
+        &mut merged,
+    );
     let mut all = keys::with_row(key, table, row as u64);
-    let mut base: usize = 0;
     let mut u: usize = 0;
     while u < n {
-        if parted(cat, cells, key, x, u, base, attrs, &merged) {
+        if parted(cat, cells, key, x, u, firsts[u], attrs, &merged) {
             all = keys::with_row(all, u, 0);
         }
-        base = base + (cat.rows[u] as usize) * tables::width(cat.schemes[u]);
         u += 1;
     }
     all
@@ -375,11 +399,11 @@ fn piece_of(cat: Catalogue, all: u64, x: Row) -> u64
 
 // "Trial of row s on set T: drop ..; add s; keep the piece that holds s; extend."
 // The search for the set it comes to is the caller's, who has the store.
-pub fn trial_set(cat: Catalogue, cells: &[u64], key: u64, row: Row) -> Grown
-    requires { ⌜ Lawful cat (length (now cells)) × Named cat key × There cat (row .table) (row .row) ⌝ }
+pub fn trial_set(cat: Catalogue, cells: &[u64], firsts: [usize; 8], key: u64, row: Row) -> Grown
+    requires { ⌜ Lawful cat (length (now cells)) × FirstCells cat firsts × Named cat key × There cat (row .table) (row .row) ⌝ }
     ensures { λ e. ⌜ Comes cat (trial (worldOf cat (now (cells .entry))) (setOf cat key) (placeOf row)) (e .key) (e .tests) ⌝ }
 {
-    let all = kept(cat, cells, key, row);
+    let all = kept(cat, cells, firsts, key, row);
     let part = piece_of(cat, all, row);
-    extend(cat, cells, part)
+    extend(cat, cells, firsts, part)
 }

@@ -4,7 +4,7 @@ ghost use mathlib.Core.Path.{_≡_};
 ghost use Prim.Native.Nat.{_≤_, _<_};
 ghost use lib.ListN.{length};
 ghost use Rattle.tables.specs.Sizes.{mostCells};
-ghost use Rattle.tables.specs.Catalogues.{total};
+ghost use Rattle.tables.specs.Catalogues.{FirstCells, total};
 ghost use Rattle.tables.specs.Checks.{Lawful};
 ghost use Rattle.machine.specs.Machine.{Fit, unfit, callFault, work, call, opening};
 ghost use Rattle.stream.specs.Promises.{stateOf, calledOf, openedOf, Tries, Ends};
@@ -90,7 +90,8 @@ pub fn open(
     }
     let first = tables::row_at(cat, 0);
     let alone = keys::with_row(0, first.table, first.row as u64);
-    let g = sets::extend(cat, cells, alone);
+    let firsts = tables::first_cells(cat);
+    let g = sets::extend(cat, cells, firsts, alone);
     store::file_record(keys, left, right, 0, g.key);
     OpenAnswer {
         refusal: 0,
@@ -169,12 +170,13 @@ fn fault(
 fn trial(
     cat: Catalogue,
     cells: &[u64],
+    firsts: [usize; 8],
     keys: &mut [u64],
     left: &mut [u16],
     right: &mut [u16],
     s: StreamRecord,
 ) -> Tried
-    requires { ⌜ Lawful cat (length (now cells)) × Fit cat (stateOf s (now keys) (now left) (now right)) × (s .«next_row» < total cat) ⌝ }
+    requires { ⌜ Lawful cat (length (now cells)) × FirstCells cat firsts × Fit cat (stateOf s (now keys) (now left) (now right)) × (s .«next_row» < total cat) ⌝ }
     ensures { λ r. ⌜ Tries cat (now (cells .entry)) s (now (keys .entry)) (now (left .entry)) (now (right .entry)) r (now (keys .exit)) (now (left .exit)) (now (right .exit)) ⌝ }
 {
     let last = s.taken - 1;
@@ -183,7 +185,7 @@ fn trial(
         return Tried::Damaged;
     }
     let row = tables::row_at(cat, s.next_row);
-    let g = sets::trial_set(cat, cells, key, row);
+    let g = sets::trial_set(cat, cells, firsts, key, row);
     let deepest = keys::key_bits(cat.n);
     let found = s.found;
     match store::offer(keys, left, right, found, g.key, deepest) {
@@ -266,6 +268,7 @@ fn work(
     requires { ⌜ Lawful cat (length (now cells)) × Fit cat (stateOf s (now keys) (now left) (now right)) × (cat .m ≤ length (now padded)) ⌝ }
     ensures { λ r. ⌜ calledOf r (now (keys .exit)) (now (left .exit)) (now (right .exit)) (now (padded .exit)) ≡ work cat (now (cells .entry)) budget (stateOf s (now (keys .entry)) (now (left .entry)) (now (right .entry))) (now (padded .entry)) ⌝ }
 {
+    let firsts = tables::first_cells(cat);
     let total = tables::total_rows(cat);
     let taken = s.taken;
     let mut found = s.found;
@@ -283,7 +286,7 @@ fn work(
         if spare == 0 {
             return told(Answer::Working, q, trials, tests, looks);
         }
-        match trial(cat, cells, keys, left, right, q) {
+        match trial(cat, cells, firsts, keys, left, right, q) {
             Tried::Done(f, t, l) => {
                 found = f;
                 next_row = next_row + 1;

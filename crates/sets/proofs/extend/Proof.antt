@@ -1,13 +1,12 @@
 -- `sets::extend` meets its contract. Round loop: what is left to do from here is the whole extension (`Growing`); each round adds a table.
--- Table walk: no row of the tables passed may be added (`Passed`). Assumes nothing.
+-- Table walk: no row of the tables passed may be added (`Passed`), and no row of a closed table ever (`Shut`). Assumes nothing.
 use borrow.Author.Needs.{needs}
 use native.Mathlib.Omega.{arith}
 use Prim.Native.Nat.{ℕ, suc, _+_, _-_, _*_, _≤_, _<_}
-use mathlib.Core.Path.{_≡_, refl}
-use lib.Count.{ones}
-use mathlib.Core.Path.{subst}
-use Rattle.tables.specs.Sizes.{mostTables, mostRows, mostCells}
-use Rattle.tables.specs.Catalogues.{countOf, schemeOf}
+use mathlib.Core.Path.{_≡_, refl, subst}
+use lib.ListN.{getD}
+use Rattle.tables.specs.Sizes.{mostTables, mostRows}
+use Rattle.tables.specs.Catalogues.{countOf, firstCell}
 use Rattle.tables.proofs.CatalogueLaws.{rows-few}
 use Rattle.disjunction.specs.Sets.{size}
 use Rattle.disjunction.specs.Rule.{extension}
@@ -15,23 +14,25 @@ use Rattle.rows.specs.World.{worldOf, setOf}
 use Rattle.rows.proofs.WorldLaws.{row-room}
 use Rattle.rows.proofs.NamedLaws.{row-small}
 use Rattle.sets.specs.Promises.{Comes}
-use Rattle.sets.proofs.RowTestLaws.{start-of, table-room}
-use Rattle.sets.proofs.Rounds.{Passed, passed-none, passed-next, Growing, mostTests, growing-start, growing-few, growing-less, growing-hit, growing-end}
+use Rattle.sets.proofs.RowTestLaws.{start-of}
+use Rattle.sets.proofs.ClosedLaws.{Shut, shut-none, shut-test, shut-more, shut-grown}
+use Rattle.sets.proofs.Rounds.{Passed, passed-none, passed-next, Growing, mostTests, growing-start, growing-few, one-more, growing-less, growing-hit, growing-end}
 use native.Mathlib.Numerals.{add-one}
 use Rattle.sets.proofs.extend.Statement.{statement}
 use Rattle.sets.proofs.extend.Tie as tie
 
 abbrev Inv-loop : tie.InvT-loop
-Inv-loop cells from cat n merged attrs key tests₀ base₀ t₀ tests base t = (tests₀ ≤ tests) × Passed cat cells (setOf cat key) t base (tests - tests₀)
+Inv-loop cells from cat firsts n merged attrs key tests₀ closed₀ t₀ tests closed t =
+    (tests₀ ≤ tests) × Passed cat cells (setOf cat key) t (tests - tests₀) × Shut cat cells key closed
 
 abbrev μ-loop : tie.MeasureT-loop
-μ-loop cells from cat n merged attrs key tests₀ base₀ t₀ tests base t = n - t
+μ-loop cells from cat firsts n merged attrs key tests₀ closed₀ t₀ tests closed t = n - t
 
 abbrev Inv-rounds : tie.InvT-rounds
-Inv-rounds cells from cat n merged₀ attrs₀ key₀ tests₀ merged attrs key tests = Growing cat cells from key attrs merged tests
+Inv-rounds cells from cat firsts n merged₀ attrs₀ key₀ tests₀ closed₀ merged attrs key tests closed = Growing cat cells from key attrs merged tests × Shut cat cells key closed
 
 abbrev μ-rounds : tie.MeasureT-rounds
-μ-rounds cells from cat n merged₀ attrs₀ key₀ tests₀ merged attrs key tests = n - size (setOf cat key)
+μ-rounds cells from cat firsts n merged₀ attrs₀ key₀ tests₀ closed₀ merged attrs key tests closed = n - size (setOf cat key)
 
 abbrev start : tie.At-loop Inv-loop μ-loop Inv-rounds μ-rounds → tie.Start Inv-loop μ-loop Inv-rounds μ-rounds
 start l = l .before .before .before .before .before
@@ -52,26 +53,24 @@ few w =
       p .count,
       rows-few (s .args .t1) _ (s .pre .0) (l .loop .t) (p .turn),
       s .pre .0 .rows _ (turn w),
-      growing-few (s .args .t1) (s .args .cells .now) _ (s .pre .0) (s .args .from) (s .pre .1) _ _ _ _ (l .before .rounds .inv),
+      growing-few (s .args .t1) (s .args .cells .now) _ (s .pre .0) (s .args .from) (s .pre .2) _ _ _ _ (l .before .rounds .inv .0),
     )
 
--- the table's cells are there
-room : (w : tie.In-loop Inv-loop μ-loop Inv-rounds μ-rounds) (k : ℕ) → k ≡ ones (schemeOf (start (w .before) .args .t1) (w .before .loop .t))
-    → w .before .loop .base + countOf (start (w .before) .args .t1) (w .before .loop .t) * k ≤ mostCells
-room w k e =
-    let s = start (w .before) in
-    table-room (s .args .t1) _ (s .pre .0) (w .before .loop .t) _ k (turn w) (w .before .loop .inv .1 .place) e
+-- the table's cells begin there
+place : (w : tie.In-loop Inv-loop μ-loop Inv-rounds μ-rounds)
+    → getD (start (w .before) .args .t3) (w .before .loop .t) 0 ≡ firstCell (start (w .before) .args .t1) (w .before .loop .t)
+place w = start (w .before) .pre .1 .each _ (turn w)
 
 merge-set-requires : tie.Need-merge-set-requires Inv-loop μ-loop Inv-rounds μ-rounds
-merge-set-requires c κs = let s = c .before .before in (s .pre .0, s .pre .1, refl)
+merge-set-requires c κs = let s = c .before .before in (s .pre .0, s .pre .1, s .pre .2, refl)
 
 rounds-holds : tie.Need-rounds-holds Inv-loop μ-loop Inv-rounds μ-rounds
-rounds-holds c = let s = c .before .before .before in growing-start _ _ _ (s .pre .0) _ (s .pre .1) _ _ (c .merge-set .ensures)
+rounds-holds c = let s = c .before .before .before in (growing-start _ _ _ (s .pre .0) _ (s .pre .2) _ _ (c .merge-set .ensures), shut-none _ _ _)
 
 loop-holds : tie.Need-loop-holds Inv-loop μ-loop Inv-rounds μ-rounds
 loop-holds c =
     let z : c .rounds .tests - c .rounds .tests ≡ 0 = omega arith in
-    (omega arith, rw z (passed-none _ _ _))
+    (omega arith, rw z (passed-none _ _ _), c .rounds .inv .1)
 
 mul-count : tie.Need-mul-count Inv-loop μ-loop Inv-rounds μ-rounds
 mul-count c = search needs
@@ -82,10 +81,17 @@ element-copy-out-count c = search needs
 cast-count : tie.Need-cast-count Inv-loop μ-loop Inv-rounds μ-rounds
 cast-count c = search needs
 
+mul-find-in : tie.Need-mul-find-in Inv-loop μ-loop Inv-rounds μ-rounds
+mul-find-in c = search needs
+
+array-read-find-in : tie.Need-array-read-find-in Inv-loop μ-loop Inv-rounds μ-rounds
+array-read-find-in c = search needs
+
 find-in-requires : tie.Need-find-in-requires Inv-loop μ-loop Inv-rounds μ-rounds
 find-in-requires c κs =
     let w = c .before .before in
-    (start (w .before) .pre .0, turn w, w .before .loop .inv .1 .place, w .before .before .rounds .inv .merged)
+    let l = w .before in
+    (start l .pre .0, turn w, place w, l .before .rounds .inv .0 .merged, shut-test _ _ _ _ (l .loop .inv .2) _ (turn w))
 
 add-row : tie.Need-add-row Inv-loop μ-loop Inv-rounds μ-rounds
 add-row c = let w = c .before .before .before .before in omega (arith, few w, c .if1 .taken)
@@ -96,35 +102,25 @@ add-tests c = let w = c .before .before .before .before in omega (arith, few w, 
 add-tests-2 : tie.Need-add-tests-2 Inv-loop μ-loop Inv-rounds μ-rounds
 add-tests-2 c = let w = c .before .before .before .before in omega (arith, few w)
 
-mul-width : tie.Need-mul-width Inv-loop μ-loop Inv-rounds μ-rounds
-mul-width c = search needs
-
-element-copy-out-width : tie.Need-element-copy-out-width Inv-loop μ-loop Inv-rounds μ-rounds
-element-copy-out-width c = search needs
-
-width-requires : tie.Need-width-requires Inv-loop μ-loop Inv-rounds μ-rounds
-width-requires c κs = search needs
-
-mul-base : tie.Need-mul-base Inv-loop μ-loop Inv-rounds μ-rounds
-mul-base c = omega (arith, room (c .before .before .before .before .before .before) _ (c .width .ensures))
-
-add-base : tie.Need-add-base Inv-loop μ-loop Inv-rounds μ-rounds
-add-base c = omega (arith, room (c .before .before .before .before .before .before) _ (c .width .ensures))
+close-if-requires : tie.Need-close-if-requires Inv-loop μ-loop Inv-rounds μ-rounds
+close-if-requires c κs = let w = c .before .before .before .before in omega (arith, turn w, start (w .before) .pre .0 .tables)
 
 add-t : tie.Need-add-t Inv-loop μ-loop Inv-rounds μ-rounds
 add-t c = search needs
 
 loop-less : tie.Need-loop-less Inv-loop μ-loop Inv-rounds μ-rounds
-loop-less c = let w = c .before .before .before .before .before .before in omega (arith, turn w)
+loop-less c = let w = c .before .before .before .before .before in omega (arith, turn w)
 
 loop-again : tie.Need-loop-again Inv-loop μ-loop Inv-rounds μ-rounds
 loop-again c =
-    let f = c .before .before .before in
+    let f = c .before .before in
     let w = f .before .before .before in
     let l = w .before in
-    let s = start l in (
+    let s = start l in
+    let b : countOf (s .args .t1) (l .loop .t) ≤ f .find-in .result = omega (arith, c .before .if1 .left) in (
       omega (arith, l .loop .inv .0),
-      passed-next _ (s .args .cells .now) _ _ _ _ _ (turn w) (l .loop .inv .1) (f .find-in .ensures) (omega (arith, c .before .before .if1 .left)) _ (c .width .ensures) _ (omega (arith, l .loop .inv .0)),
+      passed-next _ (s .args .cells .now) _ _ _ _ (turn w) (l .loop .inv .1) (f .find-in .ensures) b _ (omega (arith, l .loop .inv .0)),
+      shut-more (s .args .t1) (s .args .cells .now) _ _ (l .loop .inv .2) _ (s .pre .0) _ _ _ (turn w) (l .before .rounds .inv .0 .merged .attributes) (f .find-in .ensures) b _ (c .close-if .ensures),
     )
 
 mul-scheme : tie.Need-mul-scheme Inv-loop μ-loop Inv-rounds μ-rounds
@@ -134,6 +130,12 @@ element-copy-out-scheme :
     tie.Need-element-copy-out-scheme Inv-loop μ-loop Inv-rounds μ-rounds
 element-copy-out-scheme c = search needs
 
+mul-merge-add : tie.Need-mul-merge-add Inv-loop μ-loop Inv-rounds μ-rounds
+mul-merge-add c = search needs
+
+array-read-merge-add : tie.Need-array-read-merge-add Inv-loop μ-loop Inv-rounds μ-rounds
+array-read-merge-add c = search needs
+
 merge-add-requires : tie.Need-merge-add-requires Inv-loop μ-loop Inv-rounds μ-rounds
 merge-add-requires c κs =
     let f = c .before .before .before in
@@ -141,8 +143,8 @@ merge-add-requires c κs =
     let s = start (w .before) in
     let b = c .before .before .if1 .taken in (
       omega arith,
-      rw (start-of (s .args .t1) (w .before .loop .t) _ _ (w .before .loop .inv .1 .place)) (row-room _ _ (s .pre .0) _ _ (record { table = turn w; low = omega arith; high = omega (arith, b) })),
-      w .before .before .rounds .inv .merged .long,
+      rw (start-of (s .args .t1) (w .before .loop .t) _ _ (place w)) (row-room _ _ (s .pre .0) _ _ (record { table = turn w; low = omega arith; high = omega (arith, b) })),
+      w .before .before .rounds .inv .0 .merged .long,
     )
 
 with-row-requires : tie.Need-with-row-requires Inv-loop μ-loop Inv-rounds μ-rounds
@@ -158,7 +160,7 @@ rounds-less c =
     let w = f .before .before .before in
     let s = start (w .before) in
     rw (c .with-row .ensures, add-one (f .find-in .result))
-    (growing-less _ (s .args .cells .now) _ (s .pre .0) (s .args .from) (s .pre .1) _ _ _ _ _ _ (w .before .before .rounds .inv) (turn w) (f .find-in .ensures) (c .before .before .before .before .if1 .taken))
+    (growing-less _ (s .args .cells .now) _ (s .pre .0) (s .args .from) (s .pre .2) _ _ _ _ _ _ (w .before .before .rounds .inv .0) (turn w) (f .find-in .ensures) (c .before .before .before .before .if1 .taken))
 
 rounds-again : tie.Need-rounds-again Inv-loop μ-loop Inv-rounds μ-rounds
 rounds-again c =
@@ -168,9 +170,12 @@ rounds-again c =
     let s = start l in
     let o = add-one (f .find-in .result) in
     let z : l .loop .tests + suc (f .find-in .result) ≡ l .before .rounds .tests + ((l .loop .tests - l .before .rounds .tests) + suc (f .find-in .result)) = omega (arith, l .loop .inv .0) in
-    rw (c .with-row .ensures, o, z)
-    (growing-hit _ (s .args .cells .now) _ (s .pre .0) (s .args .from) (s .pre .1) _ _ _ _ _ _ (l .before .rounds .inv) (turn w) (f .find-in .ensures) (c .before .before .before .before .if1 .taken) _ _ (l .loop .inv .1) _ _
-    (rw (← o, ← start-of (s .args .t1) (l .loop .t) (f .find-in .result + 1) _ (l .loop .inv .1 .place)) (c .before .merge-add .ensures)))
+    let n = one-more _ (s .args .cells .now) _ (s .pre .0) (s .args .from) (s .pre .2) _ _ _ _ _ _ (l .before .rounds .inv .0) (turn w) (f .find-in .ensures) (c .before .before .before .before .if1 .taken) in
+    rw (c .with-row .ensures, o, z) (
+      growing-hit _ (s .args .cells .now) _ (s .pre .0) (s .args .from) (s .pre .2) _ _ _ _ _ _ (l .before .rounds .inv .0) (turn w) (f .find-in .ensures) (c .before .before .before .before .if1 .taken) _ (l .loop .inv .1) _ _
+          (rw (← o, ← start-of (s .args .t1) (l .loop .t) (f .find-in .result + 1) _ (place w)) (c .before .merge-add .ensures)),
+      shut-grown (s .args .t1) (s .args .cells .now) _ _ (l .loop .inv .2) _ _ n,
+    )
 
 returns : tie.Need-returns Inv-loop μ-loop Inv-rounds μ-rounds
 returns c =
@@ -178,7 +183,7 @@ returns c =
     let s = start l in
     let z : l .before .rounds .tests + (l .loop .tests - l .before .rounds .tests) ≡ l .loop .tests = omega (arith, l .loop .inv .0) in
     subst (λ (x : ℕ). Comes (s .args .t1) (extension (worldOf (s .args .t1) (s .args .cells .now)) (setOf (s .args .t1) (s .args .from))) (l .before .rounds .key) x) z
-    (growing-end _ _ _ (s .pre .0) _ (s .pre .1) _ _ _ _ _ _ (l .before .rounds .inv) (rw (c .loop-test .taken) at (l .loop .inv .1)))
+    (growing-end _ _ _ (s .pre .0) _ (s .pre .2) _ _ _ _ _ (l .before .rounds .inv .0) (rw (c .loop-test .taken) at (l .loop .inv .1)))
 
 pub extend-spec : {M : Type 1} → statement M
 extend-spec =
@@ -194,20 +199,20 @@ extend-spec =
     mul-count
     element-copy-out-count
     cast-count
+    mul-find-in
+    array-read-find-in
     find-in-requires
     add-row
     add-tests
     add-tests-2
-    mul-width
-    element-copy-out-width
-    width-requires
-    mul-base
-    add-base
+    close-if-requires
     add-t
     loop-less
     loop-again
     mul-scheme
     element-copy-out-scheme
+    mul-merge-add
+    array-read-merge-add
     merge-add-requires
     with-row-requires
     rounds-less

@@ -12,7 +12,7 @@ use Rattle.tables.proofs.CatalogueLaws.{table-ends}
 use Rattle.rows.specs.World.{setOf}
 use Rattle.sets.specs.Merged.{matches, rowIn}
 use Rattle.sets.proofs.MergedLaws.{shared-under}
-use Rattle.sets.proofs.RowTestLaws.{test-member, test-apart, test-merged, first-none, first-same, start-is}
+use Rattle.sets.proofs.RowTestLaws.{test-member, test-apart, test-merged, first-all, first-none, first-same, start-is}
 use Rattle.sets.proofs.find_in.Statement.{statement}
 use Rattle.sets.proofs.find_in.Tie as tie
 
@@ -31,15 +31,23 @@ element-copy-out-count c = search needs
 cast-count : tie.Need-cast-count
 cast-count c = search needs
 
-row-of-requires : tie.Need-row-of-requires
-row-of-requires c κs = search needs
+bit-of-requires : tie.Need-bit-of-requires
+bit-of-requires c κs = search needs
 
 returns : tie.Need-returns
 returns c =
     let s = c .before .before .before .before in
+    first-all _ _ (s .pre .4 (sym (c .before .bit-of .ensures) ∙ c .if1 .taken))
+
+row-of-requires : tie.Need-row-of-requires
+row-of-requires c κs = search needs
+
+returns-2 : tie.Need-returns-2
+returns-2 c =
+    let s = c .before .before .before .before .before .before in
     first-none _ _
     (λ i. test-member (s .args .t1) (s .args .cells .now) (setOf (s .args .t1) (s .args .key)) _
-    (λ z. c .if1 .taken (c .before .row-of .ensures ∙ sym (in-at bitsPerRow (s .args .t1 .n) (s .args .key) (s .args .t) (s .pre .1)) ∙ z)))
+    (λ z. c .if2 .taken (c .before .row-of .ensures ∙ sym (in-at bitsPerRow (s .args .t1 .n) (s .args .key) (s .args .t) (s .pre .1)) ∙ z)))
 
 mul-scheme : tie.Need-mul-scheme
 mul-scheme c = search needs
@@ -47,24 +55,24 @@ mul-scheme c = search needs
 element-copy-out-scheme : tie.Need-element-copy-out-scheme
 element-copy-out-scheme c = search needs
 
-returns-2 : tie.Need-returns-2
-returns-2 c =
-    let s = c .before .before .before .before .before .before in
+returns-3 : tie.Need-returns-3
+returns-3 c =
+    let s = c .before .before .before .before .before .before .before .before in
     first-none _ _
-    (λ i. test-apart (s .args .t1) (s .args .cells .now) _ (s .pre .0) (setOf (s .args .t1) (s .args .key)) _ (in-length bitsPerRow (s .args .t1 .n) (s .args .key)) (s .pre .1) _ (s .pre .3 .attributes) (c .if2 .taken))
+    (λ i. test-apart (s .args .t1) (s .args .cells .now) _ (s .pre .0) (setOf (s .args .t1) (s .args .key)) _ (in-length bitsPerRow (s .args .t1 .n) (s .args .key)) (s .pre .1) _ (s .pre .3 .attributes) (c .if3 .taken))
 
 first-fit-requires : tie.Need-first-fit-requires
 first-fit-requires c κs =
-    let s = c .before .before .before .before .before .before in
-    (rw (s .pre .2) (omega (arith, table-ends (s .args .t1) _ (s .pre .0) _ (s .pre .1), s .pre .0 .room)), shared-under _ _, omega (arith, c .if2 .left))
+    let s = c .before .before .before .before .before .before .before .before in
+    (rw (s .pre .2) (omega (arith, table-ends (s .args .t1) _ (s .pre .0) _ (s .pre .1), s .pre .0 .room)), shared-under _ _, omega (arith, c .if3 .left))
 
-returns-3 : tie.Need-returns-3
-returns-3 c =
-    let s = c .before .before .before .before .before .before .before in
-    let z = in-at bitsPerRow (s .args .t1 .n) (s .args .key) (s .args .t) (s .pre .1) ∙ sym (c .before .before .before .before .row-of .ensures) ∙ c .before .before .before .if1 .left in
+returns-4 : tie.Need-returns-4
+returns-4 c =
+    let s = c .before .before .before .before .before .before .before .before .before in
+    let z = in-at bitsPerRow (s .args .t1 .n) (s .args .key) (s .args .t) (s .pre .1) ∙ sym (c .before .before .before .before .row-of .ensures) ∙ c .before .before .before .if2 .left in
     first-same _ _ _ _
     (λ i.
-    test-merged (s .args .t1) (s .args .cells .now) _ (s .pre .0) (setOf (s .args .t1) (s .args .key)) _ (in-length bitsPerRow (s .args .t1 .n) (s .args .key)) (s .pre .1) (s .args .merged .now) _ (s .pre .3) z (c .before .if2 .left)
+    test-merged (s .args .t1) (s .args .cells .now) _ (s .pre .0) (setOf (s .args .t1) (s .args .key)) _ (in-length bitsPerRow (s .args .t1 .n) (s .args .key)) (s .pre .1) (s .args .merged .now) _ (s .pre .3) z (c .before .if3 .left)
     ∙ starts (s .args .t1) (s .args .cells .now) (s .args .t) i (s .args .base) _ (s .args .merged .now) (s .pre .2))
     (c .first-fit .ensures)
 
@@ -75,10 +83,12 @@ find-in-spec =
     mul-count
     element-copy-out-count
     cast-count
-    row-of-requires
+    bit-of-requires
     returns
+    row-of-requires
+    returns-2
     mul-scheme
     element-copy-out-scheme
-    returns-2
+    returns-3
     first-fit-requires
-    returns-3)
+    returns-4)

@@ -1,77 +1,54 @@
 -- `sets::merge_set` meets its contract. Invariant: the merged row is that of the rows below table u (`upTo`). Assumes nothing.
 use borrow.Author.Needs.{needs}
 use native.Mathlib.Omega.{arith}
-use Prim.Native.Nat.{_+_, _-_, _*_, _≤_}
-use mathlib.Core.Path.{_≡_, refl, sym, _∙_}
+use Prim.Native.Nat.{_-_, _≤_}
+use mathlib.Core.Path.{sym, _∙_}
 use mathlib.Core.Logic.{⊎-elim}
 use Rattle.keys.specs.Keys.{bitsPerRow}
 use Rattle.keys.proofs.SetLaws.{in-at, in-length}
-use Rattle.tables.specs.Sizes.{mostCells}
-use Rattle.tables.specs.Catalogues.{countOf, firstCell}
-use Rattle.tables.proofs.CatalogueLaws.{cells-next}
 use Rattle.rows.specs.World.{setOf}
 use Rattle.rows.proofs.WorldLaws.{row-room}
 use Rattle.sets.specs.Merged.{Merged}
 use Rattle.sets.proofs.MergedLaws.{merged-none, merged-same, merged-add, upTo, up-out, up-row, up-skip, up-all}
-use Rattle.sets.proofs.RowTestLaws.{start-of, table-room}
+use Rattle.sets.proofs.RowTestLaws.{start-of}
 use Rattle.sets.proofs.merge_set.Statement.{statement}
 use Rattle.sets.proofs.merge_set.Tie as tie
 
 abbrev Inv-loop : tie.InvT-loop
-Inv-loop cells key merged₀ cat n attrs₀ base₀ u₀ merged attrs base u = (u ≤ n) × (base ≡ firstCell cat u) × Merged cat cells (upTo (setOf cat key) u) merged attrs
+Inv-loop cells key merged₀ cat firsts n attrs₀ u₀ merged attrs u = (u ≤ n) × Merged cat cells (upTo (setOf cat key) u) merged attrs
 
 abbrev μ-loop : tie.MeasureT-loop
-μ-loop cells key merged₀ cat n attrs₀ base₀ u₀ merged attrs base u = n - u
-
--- the next table's cells begin within the cells
-fits : (c : tie.After-width Inv-loop μ-loop)
-    → c .before .before .before .before .before .before .loop .base + countOf (c .before .before .before .before .before .before .before .before .args .t1) (c .before .before .before .before .before .before .loop .u) * c .width .result ≤ mostCells
-fits c =
-    let l = c .before .before .before .before .before .before in
-    let s = l .before .before in
-    table-room (s .args .t1) _ (s .pre .0) (l .loop .u) _ _ (c .before .before .before .before .before .loop-test .taken) (l .loop .inv .1) (c .width .ensures)
+μ-loop cells key merged₀ cat firsts n attrs₀ u₀ merged attrs u = n - u
 
 loop-holds : tie.Need-loop-holds Inv-loop μ-loop
-unfolding firstCell
-loop-holds c = (omega arith, refl, merged-none _ _ _ _ (c .before .pre .2) (λ u. up-out _ 0 u (omega arith)))
-
-mul-scheme : tie.Need-mul-scheme Inv-loop μ-loop
-mul-scheme c = search needs
-
-element-copy-out-scheme : tie.Need-element-copy-out-scheme Inv-loop μ-loop
-element-copy-out-scheme c = search needs
+loop-holds c = (omega arith, merged-none _ _ _ _ (c .before .pre .3) (λ u. up-out _ 0 u (omega arith)))
 
 row-of-requires : tie.Need-row-of-requires Inv-loop μ-loop
 row-of-requires c κs = search needs
 
+mul-merge-add : tie.Need-mul-merge-add Inv-loop μ-loop
+mul-merge-add c = search needs
+
+element-copy-out-merge-add : tie.Need-element-copy-out-merge-add Inv-loop μ-loop
+element-copy-out-merge-add c = search needs
+
+mul-merge-add-2 : tie.Need-mul-merge-add-2 Inv-loop μ-loop
+mul-merge-add-2 c = search needs
+
+array-read-merge-add : tie.Need-array-read-merge-add Inv-loop μ-loop
+array-read-merge-add c = search needs
+
 merge-add-requires : tie.Need-merge-add-requires Inv-loop μ-loop
 merge-add-requires c κs =
-    let l = c .before .before .before .before .before in
+    let i = c .before .before in
+    let l = i .before .before .before in
     let s = l .before .before in
-    let b = c .before .before .before .before .loop-test .taken in (
-      omega (arith, c .before .if1 .taken),
-      rw (start-of (s .args .t1) (l .loop .u) _ _ (l .loop .inv .1))
-          (row-room _ _ (s .pre .0) _ _ (record { table = b; low = omega (arith, c .before .if1 .taken); high = rw (c .before .before .row-of .ensures) (s .pre .1 .rows _ b) })),
-      l .loop .inv .2 .long,
+    let b = i .before .before .loop-test .taken in (
+      omega (arith, i .if1 .taken),
+      rw (start-of (s .args .t1) (l .loop .u) _ _ (s .pre .1 .each _ b))
+          (row-room _ _ (s .pre .0) _ _ (record { table = b; low = omega (arith, i .if1 .taken); high = rw (i .before .row-of .ensures) (s .pre .2 .rows _ b) })),
+      l .loop .inv .1 .long,
     )
-
-mul-base : tie.Need-mul-base Inv-loop μ-loop
-mul-base c = search needs
-
-element-copy-out-base : tie.Need-element-copy-out-base Inv-loop μ-loop
-element-copy-out-base c = search needs
-
-cast-base : tie.Need-cast-base Inv-loop μ-loop
-cast-base c = search needs
-
-width-requires : tie.Need-width-requires Inv-loop μ-loop
-width-requires c κs = search needs
-
-mul-base-2 : tie.Need-mul-base-2 Inv-loop μ-loop
-mul-base-2 c = omega (arith, fits c)
-
-add-base : tie.Need-add-base Inv-loop μ-loop
-add-base c = omega (arith, fits c)
 
 add-u : tie.Need-add-u Inv-loop μ-loop
 add-u c = search needs
@@ -81,26 +58,25 @@ loop-less c = search needs
 
 loop-again : tie.Need-loop-again Inv-loop μ-loop
 loop-again c =
-    let l = c .before .before .before .before .before .before in
+    let l = c .before .before .before in
     let s = l .before .before in
-    let b = c .before .before .before .before .before .loop-test .taken in
-    let own = in-at bitsPerRow (s .args .t1 .n) (s .args .key) (l .loop .u) b ∙ sym (c .before .before .before .row-of .ensures) in (
+    let b = c .before .before .loop-test .taken in
+    let own = in-at bitsPerRow (s .args .t1 .n) (s .args .key) (l .loop .u) b ∙ sym (c .before .row-of .ensures) in (
       omega (arith, b),
-      rw (c .width .ensures) (omega (arith, l .loop .inv .1, cells-next (s .args .t1) (l .loop .u))),
       ⊎-elim
           (λ w.
-          rw (w .3, w .4)
-          (merged-add _ _ _ (s .pre .0) _ _ _ _ b (up-row _ _ _ (omega (arith, w .0 .taken)) own) _ _ _ _ (l .loop .inv .2)
-          (rw (← start-of (s .args .t1) (l .loop .u) _ _ (l .loop .inv .1)) (w .2 .ensures))))
-          (λ w. rw (w .1, w .2) (merged-same _ _ _ _ _ _ (λ v. up-skip _ _ v (own ∙ w .0 .left)) (l .loop .inv .2)))
-          (c .before .before .if1 .came),
+          rw (w .4, w .5)
+          (merged-add _ _ _ (s .pre .0) _ _ _ _ b (up-row _ _ _ (omega (arith, w .0 .taken)) own) _ _ _ _ (l .loop .inv .1)
+          (rw (← start-of (s .args .t1) (l .loop .u) _ _ (s .pre .1 .each _ b)) (w .3 .ensures))))
+          (λ w. rw (w .1, w .2) (merged-same _ _ _ _ _ _ (λ v. up-skip _ _ v (own ∙ w .0 .left)) (l .loop .inv .1)))
+          (c .if1 .came),
     )
 
 returns : tie.Need-returns Inv-loop μ-loop
 returns c =
     let s = c .before .before .before in
     let l = c .before in
-    merged-same _ _ _ _ _ _ (λ v. up-all _ (l .loop .u) v (rw (in-length bitsPerRow (s .args .t1 .n) (s .args .key)) (omega (arith, c .loop-test .left)))) (l .loop .inv .2)
+    merged-same _ _ _ _ _ _ (λ v. up-all _ (l .loop .u) v (rw (in-length bitsPerRow (s .args .t1 .n) (s .args .key)) (omega (arith, c .loop-test .left)))) (l .loop .inv .1)
 
 pub merge-set-spec : {M : Type 1} → statement M
 merge-set-spec =
@@ -109,16 +85,12 @@ merge-set-spec =
     Inv-loop
     μ-loop
     loop-holds
-    mul-scheme
-    element-copy-out-scheme
     row-of-requires
+    mul-merge-add
+    element-copy-out-merge-add
+    mul-merge-add-2
+    array-read-merge-add
     merge-add-requires
-    mul-base
-    element-copy-out-base
-    cast-base
-    width-requires
-    mul-base-2
-    add-base
     add-u
     loop-less
     loop-again

@@ -11,20 +11,20 @@ kept-requires c κs = search needs
 piece-of-requires : tie.Need-piece-of-requires
 piece-of-requires c κs =
     let s = c .before .before in
-    (lawful-all _ _ (s .pre .0), s .pre .2, kept-here _ _ _ (s .pre .0) _ (s .pre .1) _ (s .pre .2) _ (c .kept .ensures))
+    (lawful-all _ _ (s .pre .0), s .pre .3, kept-here _ _ _ (s .pre .0) _ (s .pre .2) _ (s .pre .3) _ (c .kept .ensures))
 
 extend-requires : tie.Need-extend-requires
 extend-requires c κs =
     let k = c .before in
     let s = k .before .before in
-    (s .pre .0, start-named _ _ _ (s .pre .0) _ (s .pre .1) _ (s .pre .2) _ (k .kept .ensures) _ (c .piece-of .ensures (s .args .cells .now)))
+    (s .pre .0, s .pre .1, start-named _ _ _ (s .pre .0) _ (s .pre .2) _ (s .pre .3) _ (k .kept .ensures) _ (c .piece-of .ensures (s .args .cells .now)))
 
 returns : tie.Need-returns
 returns c =
     let p = c .before in
     let k = p .before in
     let s = k .before .before in
-    tried _ _ _ (s .pre .0) _ (s .pre .1) _ (s .pre .2) _ (k .kept .ensures) _ (p .piece-of .ensures (s .args .cells .now)) _ _ (c .extend .ensures)
+    tried _ _ _ (s .pre .0) _ (s .pre .2) _ (s .pre .3) _ (k .kept .ensures) _ (p .piece-of .ensures (s .args .cells .now)) _ _ (c .extend .ensures)
 
 pub trial-set-spec : {M : Type 1} → statement M
 trial-set-spec = tie.close (tie.spec kept-requires piece-of-requires extend-requires returns)

@@ -73,15 +73,18 @@ with-row-requires c κs =
     let x = place-there (c .before .before .before .before .before .before .before .before .before .before .before .before .before .before .args .cat) (c .before .before .before .before .before .before .before .before .before .before .before .before .before .before .args .cells .now) 0 h in
     rw (c .row-at .ensures) (omega (arith, x .table, L .tables), row-small _ _ L _ _ x)
 
+first-cells-requires : tie.Need-first-cells-requires
+first-cells-requires c κs = lawful-all _ _ (fault-lawful _ _ (sym (c .before .before .before .before .before .before .before .before .before .before .fault .ensures) ∙ c .before .before .before .before .before .before .before .before .before .if1 .left))
+
 extend-requires : tie.Need-extend-requires
 extend-requires c κs =
-    let L = fault-lawful _ _ (sym (c .before .before .before .before .before .before .before .before .before .before .fault .ensures) ∙ c .before .before .before .before .before .before .before .before .before .if1 .left) in
-    let h : 0 < total (c .before .before .before .before .before .before .before .before .before .before .before .before .before .before .before .args .cat) = omega (arith, c .before .before .before .before .before .before .before .before .total-rows .ensures, c .before .before .before .before .before .before .before .if2 .left) in
-    let x = place-there (c .before .before .before .before .before .before .before .before .before .before .before .before .before .before .before .args .cat) (c .before .before .before .before .before .before .before .before .before .before .before .before .before .before .before .args .cells .now) 0 h in
-    (L, rw (c .with-row .ensures, c .before .row-at .ensures) (alone-named _ _ _ x (row-small _ _ L _ _ x)))
+    let L = fault-lawful _ _ (sym (c .before .before .before .before .before .before .before .before .before .before .before .fault .ensures) ∙ c .before .before .before .before .before .before .before .before .before .before .if1 .left) in
+    let h : 0 < total (c .before .before .before .before .before .before .before .before .before .before .before .before .before .before .before .before .args .cat) = omega (arith, c .before .before .before .before .before .before .before .before .before .total-rows .ensures, c .before .before .before .before .before .before .before .before .if2 .left) in
+    let x = place-there (c .before .before .before .before .before .before .before .before .before .before .before .before .before .before .before .before .args .cat) (c .before .before .before .before .before .before .before .before .before .before .before .before .before .before .before .before .args .cells .now) 0 h in
+    (L, c .first-cells .ensures, rw (c .before .with-row .ensures, c .before .before .row-at .ensures) (alone-named _ _ _ x (row-small _ _ L _ _ x)))
 
 file-record-requires : tie.Need-file-record-requires
-file-record-requires c κs = omega (arith, c .before .before .before .before .before .before .before .room .ensures, c .before .before .before .before .before .before .if3 .left)
+file-record-requires c κs = omega (arith, c .before .before .before .before .before .before .before .before .room .ensures, c .before .before .before .before .before .before .before .if3 .left)
 
 same-length-4 : tie.Need-same-length-4
 same-length-4 c = search needs
@@ -95,13 +98,13 @@ same-length-6 c = search needs
 returns-4 : tie.Need-returns-4
 unfolding filed
 returns-4 c =
-    let a = c .before .before .before .before .before .before .before .before .before .before .before .before .before .before .before .before .before .before .before .before .before .before .before .before .before .before .args in
-    let L = fault-lawful _ _ (sym (c .before .before .before .before .before .before .before .before .before .before .before .before .before .before .before .before .before .before .before .before .before .fault .ensures) ∙ c .before .before .before .before .before .before .before .before .before .before .before .before .before .before .before .before .before .before .before .before .if1 .left) in
-    let t = c .before .before .before .before .before .before .before .before .before .before .before .before .before .before .before .before .before .before .before .total-rows .ensures in
-    let h : 0 < total (a .cat) = omega (arith, c .before .before .before .before .before .before .before .before .before .before .before .before .before .before .before .before .before .before .before .total-rows .ensures, c .before .before .before .before .before .before .before .before .before .before .before .before .before .before .before .before .before .before .if2 .left) in
-    let r = c .before .before .before .before .before .before .before .before .before .before .before .before .before .before .room .ensures in
-    let f = open-free (a .cat) _ (storeIn (a .keys .now) (a .left .now) (a .right .now) 0) L (λ z. omega (arith, r, c .before .before .before .before .before .before .before .before .before .before .before .before .before .if3 .left)) in
-    let g = rw (c .before .before .before .before .before .before .before .before .before .before .before .with-row .ensures, c .before .before .before .before .before .before .before .before .before .before .before .before .row-at .ensures, first-grown (a .cat) (a .cells .now) _ L h) at (c .before .before .before .before .before .before .before .before .before .before .extend .ensures) in
+    let a = c .before .before .before .before .before .before .before .before .before .before .before .before .before .before .before .before .before .before .before .before .before .before .before .before .before .before .before .args in
+    let L = fault-lawful _ _ (sym (c .before .before .before .before .before .before .before .before .before .before .before .before .before .before .before .before .before .before .before .before .before .before .fault .ensures) ∙ c .before .before .before .before .before .before .before .before .before .before .before .before .before .before .before .before .before .before .before .before .before .if1 .left) in
+    let t = c .before .before .before .before .before .before .before .before .before .before .before .before .before .before .before .before .before .before .before .before .total-rows .ensures in
+    let h : 0 < total (a .cat) = omega (arith, c .before .before .before .before .before .before .before .before .before .before .before .before .before .before .before .before .before .before .before .before .total-rows .ensures, c .before .before .before .before .before .before .before .before .before .before .before .before .before .before .before .before .before .before .before .if2 .left) in
+    let r = c .before .before .before .before .before .before .before .before .before .before .before .before .before .before .before .room .ensures in
+    let f = open-free (a .cat) _ (storeIn (a .keys .now) (a .left .now) (a .right .now) 0) L (λ z. omega (arith, r, c .before .before .before .before .before .before .before .before .before .before .before .before .before .before .if3 .left)) in
+    let g = rw (c .before .before .before .before .before .before .before .before .before .before .before .before .with-row .ensures, c .before .before .before .before .before .before .before .before .before .before .before .before .before .row-at .ensures, first-grown (a .cat) (a .cells .now) _ L h) at (c .before .before .before .before .before .before .before .before .before .before .extend .ensures) in
     let k = g .key in
     let n = g .tests in
     let o = c .before .before .before .before .before .before .file-record .ensures in
@@ -125,6 +128,7 @@ open-spec =
     returns-3
     row-at-requires
     with-row-requires
+    first-cells-requires
     extend-requires
     file-record-requires
     same-length-4

@@ -31,18 +31,18 @@ ends c =
     let g = c .before .before .before .before .before .trial-set .ensures in
     let e = c .before .before .before .before .before .before .row-at .ensures in
     let k = c .before .before .before .before .key-bits .ensures in
-    offer-trial (a .cat) (a .cells .now) (stateOf (a .s) (a .keys .now) (a .left .now) (a .right .now)) _ _ (c .offer .result) _ _ _ (p .2)
+    offer-trial (a .cat) (a .cells .now) (stateOf (a .s) (a .keys .now) (a .left .now) (a .right .now)) _ _ (c .offer .result) _ _ _ (p .3)
     (sym (c .before .before .before .before .before .before .before .before .key-named .ensures) ∙ not-false _ (c .before .before .before .before .before .before .before .if1 .left))
     (rw e at (g .key)) (rw e at (g .tests)) (rw k at (c .offer .ensures))
 
 sub-last : tie.Need-sub-last
-sub-last c = omega (arith, taken-some _ _ (c .before .before .before .before .before .pre .1) (c .before .before .before .before .before .pre .2))
+sub-last c = omega (arith, taken-some _ _ (c .before .before .before .before .before .pre .2) (c .before .before .before .before .before .pre .3))
 
 mul-key : tie.Need-mul-key
 mul-key c = search needs
 
 slice-read-key : tie.Need-slice-read-key
-slice-read-key c = omega (arith, taken-some _ _ (c .before .before .before .before .before .before .pre .1) (c .before .before .before .before .before .before .pre .2), keys-long _ _ (c .before .before .before .before .before .before .pre .1), c .before .before .before .before .before .before .pre .1 .taken)
+slice-read-key c = omega (arith, taken-some _ _ (c .before .before .before .before .before .before .pre .2) (c .before .before .before .before .before .before .pre .3), keys-long _ _ (c .before .before .before .before .before .before .pre .2), c .before .before .before .before .before .before .pre .2 .taken)
 
 key-named-requires : tie.Need-key-named-requires
 key-named-requires c κs = lawful-all _ _ (c .before .before .before .before .before .before .pre .0)
@@ -51,12 +51,12 @@ returns : tie.Need-returns
 returns c = record { same = trial-lost _ _ _ (sym (c .before .key-named .ensures) ∙ not-true _ (c .if1 .taken)); unmarked = (refl, refl, refl) }
 
 row-at-requires : tie.Need-row-at-requires
-row-at-requires c κs = (lawful-all _ _ (c .before .before .before .before .before .before .before .before .pre .0), c .before .before .before .before .before .before .before .before .pre .2)
+row-at-requires c κs = (lawful-all _ _ (c .before .before .before .before .before .before .before .before .pre .0), c .before .before .before .before .before .before .before .before .pre .3)
 
 trial-set-requires : tie.Need-trial-set-requires
 trial-set-requires c κs =
     let p = c .before .before .before .before .before .before .before .before .before .pre in
-    (p .0, named-iff _ _ .0 (sym (c .before .before .key-named .ensures) ∙ not-false _ (c .before .if1 .left)), rw (c .row-at .ensures) (place-there _ (c .before .before .before .before .before .before .before .before .before .args .cells .now) _ (p .2)))
+    (p .0, p .1, named-iff _ _ .0 (sym (c .before .before .key-named .ensures) ∙ not-false _ (c .before .if1 .left)), rw (c .row-at .ensures) (place-there _ (c .before .before .before .before .before .before .before .before .before .args .cells .now) _ (p .3)))
 
 key-bits-requires : tie.Need-key-bits-requires
 key-bits-requires c κs = c .before .before .before .before .before .before .before .before .before .before .pre .0 .tables
@@ -64,7 +64,7 @@ key-bits-requires c κs = c .before .before .before .before .before .before .bef
 offer-requires : tie.Need-offer-requires
 offer-requires c κs =
     let p = c .before .before .before .before .before .before .before .before .before .before .before .before .before .before .pre in
-    (p .1 .some (omega (arith, p .2)), p .1 .room, rw (c .before .before .before .key-bits .ensures) (omega (arith, p .0 .tables)))
+    (p .2 .some (omega (arith, p .3)), p .2 .room, rw (c .before .before .before .key-bits .ensures) (omega (arith, p .0 .tables)))
 
 enum-known-looks : tie.Need-enum-known-looks
 enum-known-looks c = search needs
@@ -72,10 +72,10 @@ enum-known-looks c = search needs
 enum-known-looks-2 : tie.Need-enum-known-looks-2
 enum-known-looks-2 c = search needs
 
-add-t28 : tie.Need-add-t28
-add-t28 c =
+add-t29 : tie.Need-add-t29
+add-t29 c =
     let p = c .before .before .before .before .before .before .before .before .before .before .before .before .before .before .before .before .before .before .before .before .before .before .before .before .pre in
-    omega (arith, p .1 .room)
+    omega (arith, p .2 .room)
 
 enum-told : tie.Need-enum-told
 enum-told c = search needs
@@ -150,7 +150,7 @@ trial-spec =
     offer-requires
     enum-known-looks
     enum-known-looks-2
-    add-t28
+    add-t29
     enum-told
     enum-told-2
     same-length

@@ -19,7 +19,7 @@ use Rattle.stream.proofs.work.Statement.{statement}
 use Rattle.stream.proofs.work.Tie as tie
 
 abbrev Inv-loop : tie.InvT-loop
-Inv-loop cat cells keys₀ left₀ right₀ budget padded total taken found₀ next-row₀ spare₀ trials₀ tests₀ looks₀ keys left right found next-row spare trials tests looks =
+Inv-loop cat cells keys₀ left₀ right₀ budget padded firsts total taken found₀ next-row₀ spare₀ trials₀ tests₀ looks₀ keys left right found next-row spare trials tests looks =
     Fit cat (stateIn keys left right found taken next-row)
     × (work cat cells budget (stateIn keys₀ left₀ right₀ found₀ taken next-row₀) padded ≡ piled trials tests looks (work cat cells spare (stateIn keys left right found taken next-row) padded))
     × (length keys ≡ length keys₀)
@@ -27,24 +27,24 @@ Inv-loop cat cells keys₀ left₀ right₀ budget padded total taken found₀ n
     × (length right ≡ length right₀)
 
 abbrev μ-loop : tie.MeasureT-loop
-μ-loop cat cells keys₀ left₀ right₀ budget padded total taken found₀ next-row₀ spare₀ trials₀ tests₀ looks₀ keys left right found next-row spare trials tests looks = total - next-row
+μ-loop cat cells keys₀ left₀ right₀ budget padded firsts total taken found₀ next-row₀ spare₀ trials₀ tests₀ looks₀ keys left right found next-row spare trials tests looks = total - next-row
 
 -- Where a trial was done: the whole call is these counts, and what is left of it.
 goes : (c : tie.After-known-told Inv-loop μ-loop)
     → let l = c .before .before .before .before .before .before .before .before .before .before .before .before .before .before .before .loop in
-    let a = c .before .before .before .before .before .before .before .before .before .before .before .before .before .before .before .before .before .before .before .before .before .before .args in
+    let a = c .before .before .before .before .before .before .before .before .before .before .before .before .before .before .before .before .before .before .before .before .before .before .before .args in
     let d = c .before .f .given .0 in
-    let k = c .before .before .before .before .before .before .before .before .before .trial .last .1 .1 in
+    let k = c .before .before .before .before .before .before .before .before .before .trial .last .1 .1 .1 in
     (Fit (a .cat) (stateIn (k .0) (k .1 .0) (k .1 .1 .0) (d .0) (a .s .taken) (l .next-row + 1)))
     × (work (a .cat) (a .cells .now) (a .budget) (stateOf (a .s) (a .keys .now) (a .left .now) (a .right .now)) (a .padded .now)
     ≡ piled (l .trials + 1) (l .tests + d .1 .0) (l .looks + d .1 .1 .0)
     (work (a .cat) (a .cells .now) (l .spare - 1) (stateIn (k .0) (k .1 .0) (k .1 .1 .0) (d .0) (a .s .taken) (l .next-row + 1)) (a .padded .now)))
 goes c =
     let l = c .before .before .before .before .before .before .before .before .before .before .before .before .before .before .before .loop in
-    let a = c .before .before .before .before .before .before .before .before .before .before .before .before .before .before .before .before .before .before .before .before .before .before .args in
+    let a = c .before .before .before .before .before .before .before .before .before .before .before .before .before .before .before .before .before .before .before .before .before .before .before .args in
     let n = c .before .before .before .before .before .before .before .before .before .before .before .before .before .before .before .before .total-rows .ensures in
     let d = c .before .f .given .0 in
-    let k = c .before .before .before .before .before .before .before .before .before .trial .last .1 .1 in
+    let k = c .before .before .before .before .before .before .before .before .before .trial .last .1 .1 .1 in
     let e : trialOn (a .cat) (a .cells .now) (stateIn (l .keys) (l .left) (l .right) (l .found) (a .s .taken) (l .next-row))
     ≡ done (stateIn (k .0) (k .1 .0) (k .1 .1 .0) (d .0) (a .s .taken) (l .next-row + 1)) (d .1 .0) (d .1 .1 .0) =
     rw (c .before .f .given .1) at (c .before .before .before .before .before .before .before .before .before .trial .ensures .same) in
@@ -59,15 +59,18 @@ small : (c : tie.After-known-told Inv-loop μ-loop)
     let d = c .before .f .given .0 in
     (l .trials + 1 ≤ 2040) × (l .tests + d .1 .0 ≤ 2040 * (8 * 2040)) × (l .looks + d .1 .1 .0 ≤ 2040 * 65)
 small c =
-    let a = c .before .before .before .before .before .before .before .before .before .before .before .before .before .before .before .before .before .before .before .before .before .before .args in
-    let p = c .before .before .before .before .before .before .before .before .before .before .before .before .before .before .before .before .before .before .before .before .before .before .pre in
+    let a = c .before .before .before .before .before .before .before .before .before .before .before .before .before .before .before .before .before .before .before .before .before .before .before .args in
+    let p = c .before .before .before .before .before .before .before .before .before .before .before .before .before .before .before .before .before .before .before .before .before .before .before .pre in
     counts-small (a .cat) (a .cells .now) (a .padded .now) (p .0) (a .budget) _ (p .1) _ _ _ _ (goes c .1)
 
+first-cells-requires : tie.Need-first-cells-requires Inv-loop μ-loop
+first-cells-requires c κs = lawful-all _ _ (c .before .before .before .before .before .pre .0)
+
 total-rows-requires : tie.Need-total-rows-requires Inv-loop μ-loop
-total-rows-requires c κs = lawful-all _ _ (c .before .before .before .before .before .pre .0)
+total-rows-requires c κs = lawful-all _ _ (c .before .before .before .before .before .before .pre .0)
 
 loop-holds : tie.Need-loop-holds Inv-loop μ-loop
-loop-holds c = (c .before .before .before .before .before .before .pre .1, piled-none _, refl, refl, refl)
+loop-holds c = (c .before .before .before .before .before .before .before .pre .1, piled-none _, refl, refl, refl)
 
 told-requires : tie.Need-told-requires Inv-loop μ-loop
 told-requires c κs = search needs
@@ -84,7 +87,7 @@ same-length-3 c = c .before .before .before .loop .inv .4
 returns : tie.Need-returns Inv-loop μ-loop
 returns c =
     let l = c .before .before .before .loop in
-    let a = c .before .before .before .before .before .before .before .before .before .before .args in
+    let a = c .before .before .before .before .before .before .before .before .before .before .before .args in
     let n = c .before .before .before .before .total-rows .ensures in
     rw (c .told .ensures)
     (sym (l .inv .1 ∙ loop-working (a .cat) (a .cells .now) (a .padded .now) (l .trials) (l .tests) (l .looks) (l .spare) _ (λ z. omega (arith, n, c .before .before .loop-test .taken, z)) (c .before .if1 .taken)))
@@ -92,7 +95,7 @@ returns c =
 trial-requires : tie.Need-trial-requires Inv-loop μ-loop
 trial-requires c κs =
     let l = c .before .before .before .before .before .loop in
-    (c .before .before .before .before .before .before .before .before .before .before .before .before .pre .0, l .inv .0, omega (arith, c .before .before .before .before .before .before .total-rows .ensures, c .before .before .before .before .loop-test .taken))
+    (c .before .before .before .before .before .before .before .before .before .before .before .before .before .pre .0, c .before .before .before .before .before .before .before .first-cells .ensures, l .inv .0, omega (arith, c .before .before .before .before .before .before .total-rows .ensures, c .before .before .before .before .loop-test .taken))
 
 enum-known-f : tie.Need-enum-known-f Inv-loop μ-loop
 enum-known-f c = search needs
@@ -119,7 +122,7 @@ loop-again : tie.Need-loop-again Inv-loop μ-loop
 loop-again c =
     let l = c .before .before .before .before .before .before .before .before .before .before .before .before .before .before .before .loop in
     let g = goes c in
-    let k = c .before .before .before .before .before .before .before .before .before .trial .kept .1 .1 in
+    let k = c .before .before .before .before .before .before .before .before .before .trial .kept .1 .1 .1 in
     (g .0, g .1, k .0 ∙ l .inv .2, k .1 .0 ∙ l .inv .3, k .1 .1 .0 ∙ l .inv .4)
 
 enum-told : tie.Need-enum-told Inv-loop μ-loop
@@ -129,18 +132,18 @@ told-requires-2 : tie.Need-told-requires-2 Inv-loop μ-loop
 told-requires-2 c κs = search needs
 
 same-length-4 : tie.Need-same-length-4 Inv-loop μ-loop
-same-length-4 c = c .before .before .before .before .before .before .before .before .before .trial .kept .1 .1 .0 ∙ c .before .before .before .before .before .before .before .before .before .before .before .before .before .before .before .loop .inv .2
+same-length-4 c = c .before .before .before .before .before .before .before .before .before .trial .kept .1 .1 .1 .0 ∙ c .before .before .before .before .before .before .before .before .before .before .before .before .before .before .before .loop .inv .2
 
 same-length-5 : tie.Need-same-length-5 Inv-loop μ-loop
-same-length-5 c = c .before .before .before .before .before .before .before .before .before .trial .kept .1 .1 .1 .0 ∙ c .before .before .before .before .before .before .before .before .before .before .before .before .before .before .before .loop .inv .3
+same-length-5 c = c .before .before .before .before .before .before .before .before .before .trial .kept .1 .1 .1 .1 .0 ∙ c .before .before .before .before .before .before .before .before .before .before .before .before .before .before .before .loop .inv .3
 
 same-length-6 : tie.Need-same-length-6 Inv-loop μ-loop
-same-length-6 c = c .before .before .before .before .before .before .before .before .before .trial .kept .1 .1 .1 .1 .0 ∙ c .before .before .before .before .before .before .before .before .before .before .before .before .before .before .before .loop .inv .4
+same-length-6 c = c .before .before .before .before .before .before .before .before .before .trial .kept .1 .1 .1 .1 .1 .0 ∙ c .before .before .before .before .before .before .before .before .before .before .before .before .before .before .before .loop .inv .4
 
 returns-2 : tie.Need-returns-2 Inv-loop μ-loop
 returns-2 c =
     let l = c .before .before .before .before .before .before .before .before .before .before .before .before .before .before .before .loop in
-    let a = c .before .before .before .before .before .before .before .before .before .before .before .before .before .before .before .before .before .before .before .before .before .before .args in
+    let a = c .before .before .before .before .before .before .before .before .before .before .before .before .before .before .before .before .before .before .before .before .before .before .before .args in
     let n = c .before .before .before .before .before .before .before .before .before .before .before .before .before .before .before .before .total-rows .ensures in
     let x = c .before .before .before .before .before .before .before .before .before .trial .ensures in
     let e = c .before .enum-told .given .1 in
@@ -155,18 +158,18 @@ told-requires-3 : tie.Need-told-requires-3 Inv-loop μ-loop
 told-requires-3 c κs = search needs
 
 same-length-7 : tie.Need-same-length-7 Inv-loop μ-loop
-same-length-7 c = c .before .before .before .before .before .before .before .before .before .trial .kept .1 .1 .0 ∙ c .before .before .before .before .before .before .before .before .before .before .before .before .before .before .before .loop .inv .2
+same-length-7 c = c .before .before .before .before .before .before .before .before .before .trial .kept .1 .1 .1 .0 ∙ c .before .before .before .before .before .before .before .before .before .before .before .before .before .before .before .loop .inv .2
 
 same-length-8 : tie.Need-same-length-8 Inv-loop μ-loop
-same-length-8 c = c .before .before .before .before .before .before .before .before .before .trial .kept .1 .1 .1 .0 ∙ c .before .before .before .before .before .before .before .before .before .before .before .before .before .before .before .loop .inv .3
+same-length-8 c = c .before .before .before .before .before .before .before .before .before .trial .kept .1 .1 .1 .1 .0 ∙ c .before .before .before .before .before .before .before .before .before .before .before .before .before .before .before .loop .inv .3
 
 same-length-9 : tie.Need-same-length-9 Inv-loop μ-loop
-same-length-9 c = c .before .before .before .before .before .before .before .before .before .trial .kept .1 .1 .1 .1 .0 ∙ c .before .before .before .before .before .before .before .before .before .before .before .before .before .before .before .loop .inv .4
+same-length-9 c = c .before .before .before .before .before .before .before .before .before .trial .kept .1 .1 .1 .1 .1 .0 ∙ c .before .before .before .before .before .before .before .before .before .before .before .before .before .before .before .loop .inv .4
 
 returns-3 : tie.Need-returns-3 Inv-loop μ-loop
 returns-3 c =
     let l = c .before .before .before .before .before .before .before .before .before .before .before .before .before .before .before .loop in
-    let a = c .before .before .before .before .before .before .before .before .before .before .before .before .before .before .before .before .before .before .before .before .before .before .args in
+    let a = c .before .before .before .before .before .before .before .before .before .before .before .before .before .before .before .before .before .before .before .before .before .before .before .args in
     let n = c .before .before .before .before .before .before .before .before .before .before .before .before .before .before .before .before .total-rows .ensures in
     let x = c .before .before .before .before .before .before .before .before .before .trial .ensures in
     let e = c .before .enum-told2 .given .1 in
@@ -177,7 +180,7 @@ returns-3 c =
 hand-out-requires : tie.Need-hand-out-requires Inv-loop μ-loop
 hand-out-requires c κs =
     let l = c .before .before .before .loop in
-    let p = c .before .before .before .before .before .before .before .before .before .before .pre in
+    let p = c .before .before .before .before .before .before .before .before .before .before .before .pre in
     let g = l .inv .0 in
     (p .0, le-antisymm (g .next) (omega (arith, c .before .before .before .before .total-rows .ensures, c .before .before .loop-test .left)), g .taken, keys-long _ _ g, p .2)
 
@@ -204,6 +207,7 @@ work-spec =
     (tie.spec
     Inv-loop
     μ-loop
+    first-cells-requires
     total-rows-requires
     loop-holds
     told-requires
