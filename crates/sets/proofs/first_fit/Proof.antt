@@ -3,6 +3,7 @@ use borrow.Author.Needs.{needs}
 use native.Mathlib.Omega.{arith}
 use Prim.Native.Nat.{ℕ, _+_, _-_, _*_, _≤_, _<_}
 use mathlib.Core.Path.{_≡_, sym, ap, _∙_}
+use mathlib.Core.Bool.{Bool}
 use lib.ListN.{length, getD}
 use lib.Count.{ones, ones-le}
 use borrow.Author.Count.{below-more}
@@ -21,10 +22,16 @@ Inv-loop cells scheme base count shared merged a wanted w first i₀ rest places
 abbrev μ-loop : tie.MeasureT-loop
 μ-loop cells scheme base count shared merged a wanted w first i₀ rest places i = count - i
 
+-- row j has the merged codes
+abbrev fits : tie.Start Inv-loop μ-loop → ℕ → Bool
+fits s j = matches (s .args .cells .now) (s .args .scheme) (rowIn (s .args .base) (s .args .scheme) j) (s .args .shared) (s .args .merged .now)
+
 -- the first cells of all rows are there
+abbrev Room : tie.Start Inv-loop μ-loop → ℕ → ℕ → Type 0
+Room s first w = (w ≤ mergedLength) × (first + s .args .count * w < length (s .args .cells .now) + w)
+
 room : (c : tie.After-rank Inv-loop μ-loop)
-    → (c .before .width .result ≤ mergedLength)
-    × ((c .before .before .before .before .before .before .args .base + c .rank .result) + c .before .before .before .before .before .before .args .count * c .before .width .result < length (c .before .before .before .before .before .before .args .cells .now) + c .before .width .result)
+    → Room (c .before .before .before .before .before .before) (c .before .before .before .before .before .before .args .base + c .rank .result) (c .before .width .result)
 room c =
     let l = c .before .before .before .before in
     let s = l .before .before in
@@ -40,9 +47,11 @@ room c =
 
 -- the walk comes to the first row that has the first code
 begun : (c : tie.After-next-equal Inv-loop μ-loop)
-    → Walked (c .before .before .before .before .before .before .before .args .cells .now) (c .before .before .before .before .before .before .before .args .base + c .before .rank .result) (c .before .before .width .result) (c .before .before .before .before .before .before .before .args .count)
+    → Walked (c .before .before .before .before .before .before .before .args .cells .now)
+    (c .before .before .before .before .before .before .before .args .base + c .before .rank .result) (c .before .before .width .result)
+    (c .before .before .before .before .before .before .before .args .count)
     (getD (c .before .before .before .before .before .before .before .args .merged .now) (c .before .before .before .before .before .lowest .result) 0)
-    (λ j. matches (c .before .before .before .before .before .before .before .args .cells .now) (c .before .before .before .before .before .before .before .args .scheme) (rowIn (c .before .before .before .before .before .before .before .args .base) (c .before .before .before .before .before .before .before .args .scheme) j) (c .before .before .before .before .before .before .before .args .shared) (c .before .before .before .before .before .before .before .args .merged .now)) (c .next-equal .result)
+    (fits (c .before .before .before .before .before .before .before)) (c .next-equal .result)
 begun c =
     let k = c .before in
     let l = k .before .before .before .before in
@@ -90,8 +99,12 @@ loop-holds : tie.Need-loop-holds Inv-loop μ-loop
 loop-holds c = begun (c .before .before .before)
 
 -- row i's cells are there
+abbrev Inside : tie.Start Inv-loop μ-loop → ℕ → ℕ → Type 0
+Inside s i w = (s .args .base + i * w) + ones (s .args .scheme) ≤ length (s .args .cells .now)
+
 inside : (c : tie.In-loop Inv-loop μ-loop)
-    → (c .before .before .before .before .before .before .before .before .before .before .before .before .args .base + c .before .loop .i * c .before .before .before .before .before .before .before .width .result) + ones (c .before .before .before .before .before .before .before .before .before .before .before .before .args .scheme) ≤ length (c .before .before .before .before .before .before .before .before .before .before .before .before .args .cells .now)
+    → Inside (c .before .before .before .before .before .before .before .before .before .before .before .before) (c .before .loop .i)
+    (c .before .before .before .before .before .before .before .width .result)
 inside c =
     let w = c .before .before .before .before .before .before .before in
     let s = w .before .before .before .before .before in
@@ -99,7 +112,8 @@ inside c =
 
 -- and what the comparison says of it is whether it has the merged codes
 answer : (c : tie.After-fits-placed Inv-loop μ-loop)
-    → matches (c .before .before .before .before .before .before .before .before .before .before .before .before .before .before .args .cells .now) (c .before .before .before .before .before .before .before .before .before .before .before .before .before .before .args .scheme) (rowIn (c .before .before .before .before .before .before .before .before .before .before .before .before .before .before .args .base) (c .before .before .before .before .before .before .before .before .before .before .before .before .before .before .args .scheme) (c .before .before .before .loop .i)) (c .before .before .before .before .before .before .before .before .before .before .before .before .before .before .args .shared) (c .before .before .before .before .before .before .before .before .before .before .before .before .before .before .args .merged .now) ≡ c .fits-placed .result
+    → fits (c .before .before .before .before .before .before .before .before .before .before .before .before .before .before) (c .before .before .before .loop .i)
+    ≡ c .fits-placed .result
 answer c =
     let o = c .before .before .before in
     let p = o .before in

@@ -5,7 +5,7 @@ use mathlib.Core.Path.{_≡_, refl, sym, ap, _∙_}
 use lib.ListN.{length}
 use borrow.Author.Needs.{needs}
 use borrow.Author.Tests.{eq-eqb, ne-eqb}
-use mathlib.Core.Bool.{not}
+use mathlib.Core.Bool.{Bool, not}
 use lib.Count.{ones}
 use lib.Dec.{eqb}
 use Rattle.keys.specs.Keys.{bitsPerRow}
@@ -20,15 +20,19 @@ use Rattle.sets.proofs.parted.Tie as tie
 
 -- the row's cells are there
 room : (c : tie.After-width)
-    → (c .before .before .before .before .before .before .before .before .args .base + (c .before .before .before .before .row-of .result - 1) * c .width .result) + ones (schemeOf (c .before .before .before .before .before .before .before .before .args .t1) (c .before .before .before .before .before .before .before .before .args .u)) ≤ length (c .before .before .before .before .before .before .before .before .args .cells .now)
+    → (c .before .before .before .before .before .before .before .before .args .base + (c .before .before .before .before .row-of .result - 1) * c .width .result)
+    + ones (schemeOf (c .before .before .before .before .before .before .before .before .args .t1) (c .before .before .before .before .before .before .before .before .args .u))
+    ≤ length (c .before .before .before .before .before .before .before .before .args .cells .now)
 room c =
     let q = c .before .before .before .before in
     let s = q .before .before .before .before in
     member-room (s .args .t1) _ (s .pre .0) (s .args .key) _ _ _ _ (s .pre .2) (q .row-of .ensures) (c .before .before .before .if2 .left) (s .pre .3) (c .width .ensures) (s .pre .1)
 
 -- what the comparison answers
-answer : (c : tie.After-first-fit)
-    → parts (worldOf (c .before .before .before .before .before .before .before .before .before .args .t1) (c .before .before .before .before .before .before .before .before .before .args .cells .now)) (setOf (c .before .before .before .before .before .before .before .before .before .args .t1) (c .before .before .before .before .before .before .before .before .before .args .key)) (placeOf (c .before .before .before .before .before .before .before .before .before .args .x)) (c .before .before .before .before .before .before .before .before .before .args .u) ≡ not (eqb (c .first-fit .result) 0)
+abbrev gone : tie.Start → Bool
+gone s = parts (worldOf (s .args .t1) (s .args .cells .now)) (setOf (s .args .t1) (s .args .key)) (placeOf (s .args .x)) (s .args .u)
+
+answer : (c : tie.After-first-fit) → gone (c .before .before .before .before .before .before .before .before .before) ≡ not (eqb (c .first-fit .result) 0)
 answer c =
     let w = c .before in
     let q = w .before .before .before .before in
