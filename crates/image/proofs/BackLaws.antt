@@ -34,6 +34,7 @@ use Rattle.image.specs.Reading.{onNumber, onWalk, runEnd, codes, rowsFro
 use Rattle.image.specs.Load.{version, firstTable, fieldAt, onField, onFault, entryOf, countAt, tableAt, onEntry, refused, tablesFrom, scanOf, tablesCodes}
 use Rattle.image.specs.Write.{encodes, cellsOf, tablesImage, tooHigh, rowsFault, tablesRefusal}
 use Rattle.image.specs.RoundTrip.{front, trimmed, found}
+use Rattle.image.proofs.LoadLaws.{GoodTable, good-table}
 use Rattle.image.proofs.AcceptLaws.{rowsAt, refusal-none, refusal-more}
 use Rattle.image.proofs.ReadingLaws.{number-was, run-was, run-add, rows-was, rows-run, row-cells}
 use Rattle.image.proofs.ThereLaws.{part-stands, or-clear, one-byte, table-codes}
@@ -49,13 +50,6 @@ module _ {A : Type 0} (a : A) where
   cond-was : (b : Bool) (x y : A) → (x ≡ a → ⊥) → cond b x y ≡ a → (b ≡ false) × (y ≡ a)
   cond-was true x y z e = absurd (z e)
   cond-was false x y z e = (refl, e)
-
-  fault-was : (f : ℕ) (refuse : ℕ → A) (y : A) → ((k : ℕ) → refuse k ≡ a → ⊥) → onFault f refuse y ≡ a → (f ≡ 0) × (y ≡ a)
-  fault-was zero refuse y z e = (refl, e)
-  fault-was (suc k) refuse y z e = absurd (z (suc k) e)
-
-no-table : (k p x c u e : ℕ) → TableFault k p ≡ Table x c u e → ⊥
-no-table k p x c u e q = let z : _≡_ {A = ℕ} 0 1 = cc in omega arith
 
 no-field : (k p x n : ℕ) → FieldFault k p ≡ Value x n → ⊥
 no-field k p x n q = let z : _≡_ {A = ℕ} 0 1 = cc in omega arith
@@ -113,52 +107,9 @@ rows-back s by (suc k) w cells first before at p i e r q same d =
 
 -- ---- a table
 
--- What a good entry says of its table: where its numbers stand, that no check refuses it, its cells, and that its rows rise.
-record TableBack (s : List ℕ) (room m used i x c u e : ℕ) : Type 0 where
-  n : ℕ
-  q : ℕ
-  scheme : decode s i ≡ Number x n
-  count : decode s n ≡ Number c q
-  clear : tableFault m room used x c ≡ 0
-  cells : u ≡ used + c * ones x
-  rows : rowsFrom c (ones x) s true 0 q ≡ To e
-
--- A table whose parts were read without fault, and whose entry is the one given.
-table-of : (s : List ℕ) (room m used i y n b q x c u e : ℕ) (d : Walk) → decode s i ≡ Number y n → decode s n ≡ Number b q → tableFault m room used y b ≡ 0
-    → rowsFrom b (ones y) s true 0 q ≡ d → entryOf y b (used + b * ones y) d ≡ Table x c u e → TableBack s room m used i x c u e
-table-of s room m used i y n b q x c u e (Fault k p) scheme count clear rows h = absurd (no-table k p x c u e h)
-table-of s room m used i y n b q x c u e (To z) scheme count clear rows h =
-    let ex : y ≡ x = cc in
-    let ec : b ≡ c = cc in
-    let eu : used + b * ones y ≡ u = cc in
-    let ee : z ≡ e = cc in
-    record {
-      n = n;
-      q = q;
-      scheme = rw ex at scheme;
-      count = rw ec at count;
-      clear = rw (ex, ec) at clear;
-      cells = rw (← ex, ← ec) (sym eu);
-      rows = rw (ex, ec, ee) at rows;
-    }
-
-module _ (s : List ℕ) (room m used x c u e : ℕ) where
-  count-was : (i y n : ℕ) → decode s i ≡ Number y n → badScheme m y ≡ false → countAt s room y used n ≡ Table x c u e → TableBack s room m used i x c u e
-  unfolding countAt
-  count-was i y n scheme good h =
-      let entry : ℕ → ℕ → Entry = λ b q. entryOf y b (used + b * ones y) (rowsFrom b (ones y) s true 0 q) in
-      number-was (Table x c u e) (decode s n) (λ b q. onFault (countFault room used y b) (λ k. TableFault k n) (entry b q)) (λ f. TableFault f n) (λ f. no-table f n x c u e) h
-      (λ b q count g.
-      let f = fault-was (Table x c u e) (countFault room used y b) (λ k. TableFault k n) (entry b q) (λ k. no-table k n x c u e) g in
-      table-of s room m used i y n b q x c u e (rowsFrom b (ones y) s true 0 q) scheme count (table-count m room used y b good ∙ f .0) refl (f .1))
-
-  table-was : (i : ℕ) → tableAt s room m used i ≡ Table x c u e → TableBack s room m used i x c u e
-  unfolding tableAt
-  table-was i h =
-      number-was (Table x c u e) (decode s i) (λ y n. cond (badScheme m y) (TableFault 5 i) (countAt s room y used n)) (λ f. TableFault f i) (λ f. no-table f i x c u e) h
-      (λ y n scheme g.
-      let b = cond-was (Table x c u e) (badScheme m y) (TableFault 5 i) (countAt s room y used n) (no-table 5 i x c u e) g in
-      count-was i y n scheme (b .0) (b .1))
+-- No check refuses a good table.
+table-clear : (s : List ℕ) (room m used i x c u e : ℕ) → GoodTable s room m used i x c u e → tableFault m room used x c ≡ 0
+table-clear s room m used i x c u e g = table-count m room used x c (g .good) ∙ g .fits
 
 -- ---- the catalogue
 
@@ -257,7 +208,7 @@ tables-were s room n cat (suc k) t xs cs i lx lc q =
     let K = keeps s room (cat .m) n cat k (t + 1) u (set xs t x) (set cs t c) e g in
     let ex : schemeOf cat t ≡ x = kept-here (cat .schemes) xs t k x (omega arith) (K .schemes) in
     let ec : countOf cat t ≡ c = kept-here (cat .rows) cs t k c (omega arith) (K .rows) in
-    let eu : firstCell cat (t + 1) ≡ u = cells-next cat t ∙ rw (ex, ec) (sym (table-was s room (cat .m) (firstCell cat t) x c u e i d .cells)) in
+    let eu : firstCell cat (t + 1) ≡ u = cells-next cat t ∙ rw (ex, ec) (sym (good-table s room (cat .m) (firstCell cat t) i x c u e d .cells)) in
     more (rw (ex, ec, eu) d)
     (tables-were s room n cat k (t + 1) (set xs t x) (set cs t c) e (rw length-set (omega arith)) (rw length-set (omega arith)) (rw eu g)))
 
@@ -279,7 +230,7 @@ module _ (s : List ℕ) (by : (k : ℕ) → getD s k 0 < 256) (room : ℕ) (cat 
   table-read t i u e d =
       let x = schemeOf cat t in
       let c = countOf cat t in
-      let b = table-was s room (cat .m) (firstCell cat t) x c u e i d in
+      let b = good-table s room (cat .m) (firstCell cat t) i x c u e d in
       let end = rows-run c (ones x) s true 0 (b .q) e (b .rows) in
       let run = run-bytes s by (c * ones x) (b .q) e end in
       record {
@@ -287,7 +238,7 @@ module _ (s : List ℕ) (by : (k : ℕ) → getD s k 0 < 256) (room : ℕ) (cat 
         bytes = rw (encode-decode s i x (b .n) by (b .scheme) .bytes, encode-decode s (b .n) c (b .q) by (b .count) .bytes, run .bytes);
         long = run .long;
         all = λ k. table-codes s k i x (b .n) c (b .q) e (b .scheme) (b .count) end;
-        clear = b .clear;
+        clear = table-clear s room (cat .m) (firstCell cat t) i x c u e b;
         rows = b .rows;
       }
 
