@@ -3,8 +3,7 @@ use Prim.Native.Nat.{ℕ}
 use native.Mathlib.Omega.{arith}
 use mathlib.Core.Path.{_≡_, refl, sym, ap, _∙_}
 use mathlib.Core.List.{List}
-use Rattle.store.specs.Store.{Store}
-use Rattle.machine.specs.Machine.{State, Says, aSet, finished, working, refused, Called, Opened}
+use Rattle.machine.specs.Machine.{State, Called, Opened}
 use Rattle.stream.specs.declared.StreamRecord.{StreamRecord}
 use Rattle.stream.specs.declared.Answer.{Answer}
 use Rattle.stream.specs.declared.Answer.the-variants.{Set, Finished, Working, Refused}

@@ -1,6 +1,6 @@
 -- What the loader accepts is lawful, so open refuses none of it and the demands hold of it; and the two round trips of crate image. Assumes nothing.
-use mathlib.Core.Path.{_≡_, sym, ap, subst, _∙_}
-use Rattle.machine.specs.Machine.{State, call, Opened, opening}
+use mathlib.Core.Path.{sym, ap, subst, _∙_}
+use Rattle.machine.specs.Machine.{State, call, Opened}
 use Rattle.store.specs.Store.{storeIn, roomIn}
 use Rattle.image.proofs.RoundTrip.{written-loads, loads-accepted, loaded-writes}
 use Rattle.claims.specs.Demands.{Demand2, Demand3}

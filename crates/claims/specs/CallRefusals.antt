@@ -1,6 +1,6 @@
 -- Demand 1 of open and of the stream call: each refusal "given exactly when its condition holds and no earlier one does". "Stream call checks the catalogue
 -- as open does, then 13, then 11 (padded row shorter than m)"; "12 and 14 may then be met at work". Proved in proofs/CallExactly. Assumes nothing.
-use Prim.Native.Nat.{ℕ, zero, suc, _≤_, _<_}
+use Prim.Native.Nat.{ℕ, suc, _≤_, _<_}
 use mathlib.Core.Path.{_≡_}
 use mathlib.Core.Logic.{_⊎_, _↔_}
 use mathlib.Core.Bool.{false}
@@ -11,7 +11,7 @@ use Rattle.tables.specs.Catalogues.{total}
 use Rattle.tables.specs.Checks.{Lawful, catalogueFault}
 use Rattle.rows.specs.Named.{named}
 use Rattle.store.specs.Store.{storeIn, roomIn}
-use Rattle.machine.specs.Machine.{State, keyDue, Trial, done, full, damaged, trialOn, refused, Fit, call, opening}
+use Rattle.machine.specs.Machine.{State, keyDue, done, full, damaged, trialOn, refused, Fit, call, opening}
 
 module _ (cat : Catalogue) (cells : List ℕ) where
   -- "If next row is N", a set is handed out or the end told; else a trial is due.

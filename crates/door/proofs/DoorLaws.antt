@@ -1,14 +1,12 @@
 -- The door's number tells the refusal and its place, since no refusal has a number above 9. Assumes nothing.
-use Prim.Native.Nat.{ℕ, _+_, _*_, _/_, _%_, _≤_, _<_}
+use Prim.Native.Nat.{ℕ, _/_, _%_}
 use native.Mathlib.Omega.{arith}
-use mathlib.Core.Path.{_≡_, refl, sym, ap, _∙_}
+use mathlib.Core.Path.{_≡_}
 use mathlib.Core.List.{List}
 use Rattle.tables.specs.Sizes.{mostCells}
-use Rattle.image.specs.declared.Verdict.{Verdict}
-use Rattle.image.specs.declared.Verdict.the-variants.{Good, Refused}
+use Rattle.image.specs.declared.Verdict.the-variants.{Refused}
 use Rattle.image.specs.Load.{farthest, NearVerdict, scanOf}
 use Rattle.image.proofs.PlaceLaws.{scan-near}
-use Rattle.verdicts.specs.Number.{doorNumber}
 use Rattle.door.specs.Door.{checkOf}
 
 -- A refusal and its place, read off the number.

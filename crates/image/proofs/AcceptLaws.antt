@@ -1,15 +1,15 @@
 -- Tables that the writer refuses for no reason but room are lawful and their rows are in order, and back. Assumes nothing.
-use Prim.Native.Nat.{ℕ, zero, suc, _+_, _*_, _≤_, _<_}
+use Prim.Native.Nat.{ℕ, zero, suc, _+_, _≤_, _<_}
 use native.Mathlib.Decide.{decLt}
 use native.Mathlib.Omega.{arith}
-use mathlib.Core.Path.{_≡_, refl, sym, ap, _∙_}
+use mathlib.Core.Path.{_≡_, refl, sym, _∙_}
 use mathlib.Core.Bool.{true}
 use mathlib.Core.List.{List}
 use lib.ListN.{length}
 use lib.Count.{ones}
 use Rattle.tables.specs.declared.Catalogue.{Catalogue}
 use Rattle.tables.specs.Catalogues.{schemeOf, countOf, firstCell}
-use Rattle.tables.specs.Checks.{firstOf, sizeFault, tablesFault, catalogueFault, Lawful}
+use Rattle.tables.specs.Checks.{sizeFault}
 use Rattle.tables.proofs.CheckLaws.{first-some, first-none, first-clear, faultAt, catalogue-split, clear-tables, tables-clear, fault-lawful, lawful-fault}
 use Rattle.image.specs.Write.{rowsFault, tableRefusal, tablesRefusal, writeFault, Accepted}
 

@@ -1,11 +1,10 @@
 -- Writing what was loaded: a number has one form only, so each part that was read without fault is what the writer puts there. Assumes nothing.
 use Prim.Native.Nat.{ℕ, zero, suc, _+_, _-_, _*_, _^_, _<_, _≤_}
-use native.Mathlib.Nat.{zero-add, zero-mul}
 use native.Mathlib.Omega.{arith}
 use mathlib.Core.Path.{_≡_, refl, sym, ap, subst, _∙_}
 use mathlib.Core.Logic.{_⊎_, inl, inr, ⊎-elim}
 use mathlib.Core.Bool.{Bool, true, false, cond, _||_}
-use mathlib.Core.List.{List, _∷_, _++_, append-assoc}
+use mathlib.Core.List.{List, _++_, append-assoc}
 use lib.ListN.{length, getD, set, drop, replicate, length-append, length-drop, length-set, length-replicate, getD-replicate, take-append-drop, drop-of-length-le}
 use lib.Seq.{ext-getD, getD-drop, getD-set-same, getD-set-other}
 use lib.Count.{ones}
@@ -13,25 +12,22 @@ use lib.Dec.{ltb}
 use borrow.Author.Tests.{lt-leb, ltb-false}
 use Rattle.laws.specs.Lists.{part}
 use Rattle.numbers.specs.Numbers.{encode, decode}
-use Rattle.numbers.specs.declared.Reading.{Reading}
-use Rattle.numbers.specs.declared.Reading.the-variants.{Number, NumberFault}
 use Rattle.numbers.proofs.RoundTrip.{encode-decode}
 use Rattle.tables.specs.declared.Catalogue.{Catalogue}
 use Rattle.tables.specs.Catalogues.{schemeOf, countOf, firstCell}
 use Rattle.tables.specs.Sizes.{mostAttributes, mostTables}
 use Rattle.tables.specs.Rows.{below}
-use Rattle.tables.specs.Checks.{outside, badScheme, countFault, tableFault}
+use Rattle.tables.specs.Checks.{outside, tableFault}
 use Rattle.tables.proofs.CatalogueLaws.{cells-next}
 use Rattle.tables.proofs.CheckLaws.{faultAt, table-count, fault-clear, InRange}
-use Rattle.image.specs.declared.Walk.{Walk}
-use Rattle.image.specs.declared.Walk.the-variants.{To, Fault}
+use Rattle.image.specs.declared.Walk.the-variants.{To}
 use Rattle.image.specs.declared.Field.{Field}
 use Rattle.image.specs.declared.Field.the-variants.{Value, FieldFault}
 use Rattle.image.specs.declared.Entry.{Entry}
 use Rattle.image.specs.declared.Entry.the-variants.{Table, TableFault}
 use Rattle.image.specs.declared.Loaded.{Loaded}
-use Rattle.image.specs.Reading.{onNumber, onWalk, runEnd, codes, rowsFrom}
-use Rattle.image.specs.Load.{version, firstTable, fieldAt, onField, onFault, entryOf, countAt, tableAt, onEntry, refused, tablesFrom, scanOf, tablesCodes}
+use Rattle.image.specs.Reading.{runEnd, codes, rowsFrom}
+use Rattle.image.specs.Load.{version, firstTable, fieldAt, onField, tableAt, onEntry, refused, tablesFrom, scanOf, tablesCodes}
 use Rattle.image.specs.Write.{encodes, cellsOf, tablesImage, tooHigh, rowsFault, tablesRefusal}
 use Rattle.image.specs.RoundTrip.{front, trimmed, found}
 use Rattle.image.proofs.LoadLaws.{GoodTable, good-table}

@@ -3,12 +3,11 @@ use Prim.Native.Nat.{ℕ, zero, suc, _+_, _-_, _*_, _<_, _≤_}
 use native.Mathlib.Decide.{decLt, ℕ-discrete}
 use native.Mathlib.Omega.{arith}
 use native.Mathlib.Numerals.{sub-one}
-use mathlib.Core.Path.{_≡_, refl, sym, ap, _∙_}
+use mathlib.Core.Path.{_≡_, refl, sym, _∙_}
 use mathlib.Core.List.{List}
-use mathlib.Core.Bool.{Bool, true, false, cond}
+use mathlib.Core.Bool.{Bool, true, false}
 use lib.ListN.{length, set, replicate}
 use lib.Count.{ones}
-use lib.Dec.{ltb}
 use borrow.Author.Tests.{lt-ltb, le-ltb}
 use Rattle.numbers.specs.Numbers.{decode}
 use Rattle.numbers.specs.declared.Reading.{Reading}
@@ -25,7 +24,7 @@ use Rattle.image.specs.declared.Entry.{Entry}
 use Rattle.image.specs.declared.Entry.the-variants.{Table, TableFault}
 use Rattle.image.specs.declared.Verdict.the-variants.{Good}
 use Rattle.image.specs.Reading.{rowsFrom}
-use Rattle.image.specs.Load.{version, refused, fieldAt, onField, onFault, entryOf, countAt, tableAt, tablesFrom, scanOf}
+use Rattle.image.specs.Load.{version, refused, fieldAt, onFault, entryOf, countAt, tableAt, tablesFrom, scanOf}
 
 -- ---- a refusal in the way
 

@@ -1,11 +1,10 @@
 -- No refusal of the first pass is placed far from the start, since a number takes nine bytes at most, and its number is 9 at most: so the door's number
 -- fits and tells both. Assumes nothing.
-use Prim.Native.Nat.{ℕ, zero, suc, _+_, _*_, _<_, _≤_}
+use Prim.Native.Nat.{ℕ, zero, suc, _+_, _*_, _≤_}
 use native.Mathlib.Nat.{suc-mul}
-use native.Mathlib.Decide.{ℕ-discrete, decLt}
+use native.Mathlib.Decide.{ℕ-discrete}
 use native.Mathlib.Omega.{arith}
-use native.Mathlib.Numerals.{sub-one}
-use mathlib.Core.Path.{_≡_, refl, sym, ap, _∙_}
+use mathlib.Core.Path.{_≡_, refl}
 use mathlib.Core.List.{List}
 use mathlib.Core.Bool.{Bool, true, false, cond, _||_}
 use lib.ListN.{length, set, replicate}
@@ -27,7 +26,6 @@ use Rattle.image.specs.declared.Entry.{Entry}
 use Rattle.image.specs.declared.Entry.the-variants.{Table, TableFault}
 use Rattle.image.specs.declared.Verdict.{Verdict}
 use Rattle.image.specs.declared.Verdict.the-variants.{Good, Refused}
-use Rattle.image.specs.declared.Loaded.{Loaded}
 use Rattle.image.specs.Reading.{onNumber, onWalk, runEnd, codes, rowsFrom}
 use Rattle.image.specs.Load.{version, refused, fieldAt, onField, entryOf, countAt, tableAt, onEntry, tablesFrom, scanOf, farthest, NearVerdict}
 use Rattle.image.proofs.LoadLaws.{count-bad, count-fault, count-rows, table-bad, table-scheme, table-count, good-field}

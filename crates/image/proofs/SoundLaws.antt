@@ -8,7 +8,6 @@ use mathlib.Core.List.{List, [], _++_}
 use lib.ListN.{length, set, getD, replicate}
 use lib.Count.{ones}
 use Rattle.numbers.specs.Numbers.{decode}
-use Rattle.numbers.specs.declared.Reading.{Reading}
 use Rattle.numbers.specs.declared.Reading.the-variants.{Number, NumberFault}
 use Rattle.numbers.proofs.EncodeLaws.{encode-last}
 use Rattle.numbers.proofs.DecodeLaws.{no-number}
@@ -19,13 +18,12 @@ use Rattle.image.specs.declared.Field.{Field}
 use Rattle.image.specs.declared.Field.the-variants.{Value, FieldFault}
 use Rattle.image.specs.declared.Entry.{Entry}
 use Rattle.image.specs.declared.Entry.the-variants.{Table, TableFault}
-use Rattle.image.specs.declared.Verdict.{Verdict}
 use Rattle.image.specs.declared.Verdict.the-variants.{Good, Refused}
 use Rattle.image.specs.declared.Loaded.{Loaded}
 use Rattle.image.specs.Reading.{runEnd, codes}
 use Rattle.image.specs.Load.{version, firstTable, fieldAt, tableAt, tablesFrom, scanOf, tablesCodes, Sound, none, more, Fillable}
 use Rattle.image.proofs.ReadingLaws.{codes-length, rows-run}
-use Rattle.image.proofs.LoadLaws.{GoodTable, good-table, good-clear, tables-over, tables-end, tables-bad, tables-more, GoodField, good-field, head-version, head-m, head-n, head-good}
+use Rattle.image.proofs.LoadLaws.{GoodTable, good-table, good-clear, tables-over, tables-end, tables-bad, tables-more, good-field, head-version, head-m, head-n, head-good}
 
 -- ---- the codes of the tables
 

@@ -7,7 +7,7 @@ use mathlib.Core.Path.{_≡_, refl, sym, ap, _∙_}
 use mathlib.Core.Logic.{⊎-elim}
 use mathlib.Core.List.{List, [], _∷_, _++_, append-assoc, append-nil}
 use lib.ListN.{length, take, drop, set, getD, length-append, length-drop, take-append-drop, drop-of-length-le, List·getD-append}
-use lib.Seq.{length-take-le, take-all, take-at, drop-at, drop-append-add, drop-drop, drop-cons, take-suc, take-suc-set, drop-set-lt, getD-at, getD-drop, take-add}
+use lib.Seq.{length-take-le, take-all, take-at, drop-at, drop-drop, drop-cons, take-suc, take-suc-set, drop-set-lt, getD-at, getD-drop, take-add}
 use Rattle.laws.specs.Lists.{put, over, part, tab}
 use Rattle.laws.proofs.TestLaws.{below-suc}
 

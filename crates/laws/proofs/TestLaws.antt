@@ -1,5 +1,5 @@
 -- What the answers of tests say: one test, two joined, and tests over the numbers below a bound. Assumes nothing.
-use Prim.Native.Nat.{ℕ, zero, suc, _≤_, _<_}
+use Prim.Native.Nat.{ℕ, zero, suc, _<_}
 use native.Mathlib.Omega.{arith}
 use native.Mathlib.Nat.{eq-or-lt-of-le, le-of-suc-le-suc, not-suc-le-zero}
 use mathlib.Core.Path.{_≡_, refl, sym, _∙_}

@@ -1,21 +1,20 @@
 -- Writing and then reading gives the number back, and what was read is what would be written. Assumes nothing.
 use Prim.Native.Nat.{ℕ, zero, suc, _+_, _-_, _*_, _/_, _%_, _^_, _<_, _≤_}
-use native.Mathlib.Nat.{pow-suc, mul-assoc, mul-comm, add-mul, add-assoc, mul-one}
+use native.Mathlib.Nat.{pow-suc, mul-assoc, mul-comm, add-mul}
 use native.Mathlib.Decide.{decLt}
 use native.Mathlib.Omega.{arith}
 use native.Mathlib.Numerals.{add-one, sub-one}
-use mathlib.Core.Path.{_≡_, refl, sym, ap, _∙_, subst}
+use mathlib.Core.Path.{_≡_, refl, sym, ap, _∙_}
 use mathlib.Core.List.{List, [], _∷_, _++_, append-assoc}
-use mathlib.Core.Bool.{Bool, true, false, cond, _&&_, and-false}
-use lib.ListN.{length, getD, take, drop, length-append}
+use mathlib.Core.Bool.{Bool, false, _&&_, and-false}
+use lib.ListN.{length, getD, drop, length-append}
 use lib.Seq.{getD-at, drop-cons}
 use lib.Dec.{ltb, eqb}
-use borrow.Author.Tests.{lt-ltb, le-ltb, eq-eqb, ne-eqb}
-use Rattle.numbers.specs.declared.Reading.{Reading}
-use Rattle.numbers.specs.declared.Reading.the-variants.{Number, NumberFault}
+use borrow.Author.Tests.{le-ltb, ne-eqb}
+use Rattle.numbers.specs.declared.Reading.the-variants.{Number}
 use Rattle.numbers.specs.Numbers.{encodeIn, encode, decodeIn, decode}
 use Rattle.numbers.proofs.EncodeLaws.{more-in, last-in}
-use Rattle.numbers.proofs.DecodeLaws.{decode-none, decode-end, decode-zero, decode-last, decode-more, pos128, no-number}
+use Rattle.numbers.proofs.DecodeLaws.{decode-end, decode-zero, decode-last, decode-more, pos128, no-number}
 
 -- a number's value from its low group and the rest
 groups : (x w v b : ℕ) → b ≡ 128 + x % 128 → v + (b - 128) * w + x / 128 * (w * 128) ≡ v + x * w

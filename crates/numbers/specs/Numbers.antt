@@ -1,6 +1,6 @@
 -- "Numbers are groups of seven bits, lowest group first, the top bit of a byte set on all but the last. The shortest form is the only one,
 -- nine bytes at most." What follows from the two definitions, that each undoes the other, stands in proofs/RoundTrip. Assumes nothing.
-use Prim.Native.Nat.{ℕ, zero, suc, _+_, _-_, _*_, _/_, _%_, _^_}
+use Prim.Native.Nat.{ℕ, zero, suc, _+_, _-_, _*_, _/_, _%_}
 use mathlib.Core.Path.{_≡_}
 use mathlib.Core.List.{List, [], _∷_}
 use mathlib.Core.Bool.{cond, _&&_}

@@ -4,7 +4,7 @@ use Prim.Native.Nat.{ℕ, _+_}
 use mathlib.Core.Path.{_≡_}
 use mathlib.Core.List.{List}
 use Rattle.tables.specs.declared.Catalogue.{Catalogue}
-use Rattle.machine.specs.Machine.{State, stateIn, Trial, done, full, damaged, trialOn, Says, aSet, finished, working, refused, Called, work, call, Opened, opening}
+use Rattle.machine.specs.Machine.{State, stateIn, Trial, done, full, damaged, trialOn, Says, aSet, finished, working, refused, Called, work, Opened}
 use Rattle.machine.specs.Machine.{piled}
 use Rattle.stream.specs.declared.StreamRecord.{StreamRecord}
 use Rattle.stream.specs.declared.Answer.{Answer}

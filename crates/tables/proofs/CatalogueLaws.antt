@@ -1,14 +1,13 @@
 -- Laws of a catalogue's sums: one table more, later tables lie behind earlier ones, and every row's cells lie inside. Assumes nothing.
 use Prim.Native.Nat.{ℕ, zero, suc, _+_, _-_, _*_, _/_, _%_, _^_, _≤_, _<_}
-use native.Mathlib.Nat.{mod-lt, mul-le-mul, mul-le-mul-left, mul-le-mul-right, suc-mul, mul-comm, add-zero, pow-suc}
+use native.Mathlib.Nat.{mod-lt, mul-le-mul, mul-le-mul-right, suc-mul, add-zero}
 use native.Mathlib.Omega.{arith}
 use native.Mathlib.Numerals.{add-one, sub-one}
-use mathlib.Core.Path.{_≡_, refl, sym, ap, _∙_}
+use mathlib.Core.Path.{_≡_, refl, _∙_}
 use lib.Count.{ones, ones-le, ones-cat, ones-step}
 use lib.Pow.{pow-pos, shl-exact, split}
 use borrow.Author.Tests.{lt-ltb, le-ltb}
 use Rattle.tables.specs.declared.Catalogue.{Catalogue}
-use Rattle.tables.specs.declared.Row.{Row}
 use Rattle.tables.specs.Sizes.{mostRows, mostCells}
 use Rattle.tables.specs.Catalogues.{schemeOf, countOf, firstCell, rowStart, rowsBefore, rowFrom}
 use Rattle.tables.specs.Checks.{Lawful}

@@ -1,13 +1,9 @@
 -- `door::harbour_check` meets its contract: the first pass decides, and no refusal of it lies far from the start. Assumes nothing.
-use native.Mathlib.Omega.{arith}
-use Prim.Native.Nat.{ℕ, _+_, _-_, _*_, _^_, _≤_, _<_}
-use mathlib.Core.Path.{_≡_, refl, sym, ap, _∙_}
-use lib.ListN.{length, getD}
+use Prim.Native.Nat.{_-_}
+use mathlib.Core.Path.{_∙_}
 use borrow.Author.Needs.{needs}
-use Rattle.image.specs.Load.{scanOf, NearVerdict, farthest}
 use Rattle.image.proofs.PlaceLaws.{scan-near}
 use Rattle.door.specs.Door.{checkOf}
-use Rattle.image.specs.declared.Loaded.{Loaded}
 use Rattle.door.proofs.harbour_check.Statement.{statement}
 use Rattle.door.proofs.harbour_check.Tie as tie
 

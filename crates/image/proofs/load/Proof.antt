@@ -1,10 +1,9 @@
 -- `image::load` meets its contract: a good first pass is sound, which is what the second pass asks. Assumes nothing.
 use native.Mathlib.Omega.{arith}
-use Prim.Native.Nat.{ℕ, _+_, _-_, _*_, _^_, _≤_, _<_}
-use mathlib.Core.Path.{_≡_, refl, sym, ap, _∙_}
-use lib.ListN.{length, getD}
+use Prim.Native.Nat.{_-_}
+use mathlib.Core.Path.{sym, ap, _∙_}
+use lib.ListN.{length}
 use borrow.Author.Needs.{needs}
-use Prim.Native.Nat.{ℕ}
 use lib.ListN.{length}
 use Rattle.image.specs.declared.Loaded.{Loaded}
 use Rattle.image.proofs.SoundLaws.{scan-sound}

@@ -1,11 +1,10 @@
 -- `numbers::read` meets its contract. Invariant: the whole answer is the answer from here. Assumes nothing.
-use Prim.Native.Nat.{_+_, _-_, _*_, _^_, _<_, _≤_}
+use Prim.Native.Nat.{_-_, _*_, _^_, _<_, _≤_}
 use mathlib.Core.Path.{_≡_, refl, sym, ap, _∙_}
-use borrow.Author.Needs.{needs}
 use native.Mathlib.Omega.{arith}
 use mathlib.Core.Bool.{Bool, false, _&&_, and-false}
 use mathlib.Core.Logic.{⊎-elim}
-use lib.ListN.{length, getD}
+use lib.ListN.{getD}
 use lib.Dec.{ltb, eqb}
 use borrow.Author.Tests.{le-ltb, eqb-true}
 use denote.Ref.{now}

@@ -1,6 +1,6 @@
 -- `numbers::write` meets its contract. Invariant: what is left to write from here on makes the whole answer.
 -- Assumes nothing.
-use Prim.Native.Nat.{_+_, _/_, _%_, _^_, _<_, _≤_}
+use Prim.Native.Nat.{_+_, _/_, _%_, _^_, _<_}
 use mathlib.Core.Path.{_≡_, refl, sym, ap, _∙_}
 use mathlib.Core.List.{[]}
 use native.Mathlib.Omega.{arith}

@@ -1,8 +1,5 @@
 -- `padding::code_of` meets its contract: the row's cells are there, so the code of an attribute that it has is. Assumes nothing.
-use native.Mathlib.Omega.{arith}
-use Prim.Native.Nat.{ℕ, _+_, _-_, _*_, _^_, _≤_, _<_}
-use mathlib.Core.Path.{_≡_, refl, sym, ap, _∙_}
-use lib.ListN.{length, getD}
+use Prim.Native.Nat.{_-_}
 use borrow.Author.Needs.{needs}
 use Rattle.tables.proofs.CatalogueLaws.{lawful-all}
 use Rattle.rows.specs.Named.{There}

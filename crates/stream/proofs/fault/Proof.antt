@@ -1,10 +1,7 @@
 -- `stream::fault` meets its contract: the catalogue, then 13, then 11, each by its own law. Assumes nothing.
-use native.Mathlib.Omega.{arith}
-use Prim.Native.Nat.{ℕ, _+_, _-_, _*_, _^_, _≤_, _<_}
-use mathlib.Core.Path.{_≡_, refl, sym, ap, _∙_}
-use lib.ListN.{length, getD}
+use Prim.Native.Nat.{_-_}
+use mathlib.Core.Path.{sym, _∙_}
 use borrow.Author.Needs.{needs}
-use Rattle.tables.specs.Checks.{Lawful}
 use Rattle.tables.proofs.CatalogueLaws.{lawful-all}
 use Rattle.tables.proofs.CheckLaws.{fault-lawful}
 use Rattle.machine.proofs.RefusalLaws.{unfit-iff, call-catalogue, call-unfit, call-short, call-free}

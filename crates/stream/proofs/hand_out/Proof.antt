@@ -1,21 +1,13 @@
 -- `stream::hand_out` meets its contract: all are handed out, or the next key is named, or it is not, each by its law of the loop. Assumes nothing.
-use native.Mathlib.Omega.{arith}
-use Prim.Native.Nat.{ℕ, _+_, _-_, _*_, _^_, _≤_, _<_}
-use mathlib.Core.Path.{_≡_, refl, sym, ap, _∙_}
-use lib.ListN.{length, getD}
+use Prim.Native.Nat.{_-_}
+use mathlib.Core.Path.{sym, _∙_}
 use borrow.Author.Needs.{needs}
-use mathlib.Core.List.{List}
-use Rattle.tables.specs.Sizes.{mostCells}
 use Rattle.tables.proofs.CatalogueLaws.{lawful-all}
 use Rattle.rows.proofs.NamedLaws.{named-iff}
 use borrow.Author.Tests.{not-true, not-false}
-use Rattle.laws.specs.Lists.{put}
-use Rattle.laws.proofs.ListLaws.{length-put}
 use Rattle.padding.specs.Padding.{paddedRow}
-use Rattle.machine.specs.Machine.{work}
-use Rattle.machine.specs.Machine.{piled}
 use Rattle.machine.proofs.LoopLaws.{loop-finished, loop-set, loop-lost}
-use Rattle.stream.specs.Promises.{stateOf, calledOf}
+use Rattle.stream.specs.Promises.{stateOf}
 use Rattle.stream.proofs.hand_out.Statement.{statement}
 use Rattle.stream.proofs.hand_out.Tie as tie
 

@@ -1,16 +1,11 @@
 -- `stream::open` meets its contract: the refusals in their order, the empty stream, and the first row alone, extended and filed. Assumes nothing.
 use native.Mathlib.Omega.{arith}
-use Prim.Native.Nat.{ℕ, _+_, _-_, _*_, _^_, _≤_, _<_}
-use mathlib.Core.Path.{_≡_, refl, sym, ap, _∙_}
-use lib.ListN.{length, getD}
+use Prim.Native.Nat.{_-_, _<_}
+use mathlib.Core.Path.{_≡_, sym, _∙_}
 use borrow.Author.Needs.{needs}
-use Rattle.keys.specs.Keys.{bitsPerRow}
-use Rattle.tables.specs.Checks.{Lawful}
 use Rattle.tables.proofs.CatalogueLaws.{lawful-all}
 use Rattle.tables.proofs.CheckLaws.{fault-lawful}
 use Rattle.rows.proofs.NamedLaws.{place-there, row-small}
-use Rattle.rows.proofs.WorldLaws.{row-place}
-use Rattle.machine.specs.Machine.{opening}
 use Rattle.machine.proofs.RefusalLaws.{open-catalogue, open-full, open-free, opening-refused, opening-empty, opening-begun}
 use Rattle.stream.proofs.StreamLaws.{alone-named, first-grown}
 use Rattle.tables.specs.Catalogues.{total}

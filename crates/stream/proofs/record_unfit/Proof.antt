@@ -1,12 +1,9 @@
 -- `stream::record_unfit` meets its contract: one part of fitting fails, or all hold. Assumes nothing.
 use native.Mathlib.Omega.{arith}
-use Prim.Native.Nat.{ℕ, _+_, _-_, _*_, _^_, _≤_, _<_}
-use mathlib.Core.Path.{_≡_, refl, sym, ap, _∙_}
-use lib.ListN.{length, getD}
+use Prim.Native.Nat.{_-_}
+use mathlib.Core.Path.{sym, _∙_}
 use borrow.Author.Needs.{needs}
-use mathlib.Core.Logic.{_↔_}
-use Rattle.tables.specs.Catalogues.{total}
-use Rattle.machine.specs.Machine.{Fit, unfit}
+use Rattle.machine.specs.Machine.{Fit}
 use Rattle.machine.proofs.RefusalLaws.{unfit-iff, unfit-met}
 use Rattle.stream.specs.Promises.{stateOf}
 use Rattle.stream.proofs.record_unfit.Statement.{statement}

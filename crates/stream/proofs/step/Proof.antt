@@ -1,8 +1,6 @@
 -- `stream::step` meets its contract: a refusal before work, or the work. Assumes nothing.
-use native.Mathlib.Omega.{arith}
-use Prim.Native.Nat.{ℕ, _+_, _-_, _*_, _^_, _≤_, _<_}
-use mathlib.Core.Path.{_≡_, refl, sym, ap, _∙_}
-use lib.ListN.{length, getD}
+use Prim.Native.Nat.{_-_}
+use mathlib.Core.Path.{sym, _∙_}
 use borrow.Author.Needs.{needs}
 use Rattle.machine.proofs.RefusalLaws.{call-clear, call-refused, call-works}
 use Rattle.stream.proofs.step.Statement.{statement}

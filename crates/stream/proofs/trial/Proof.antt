@@ -1,19 +1,15 @@
 -- `stream::trial` meets its contract: the key's test, then the rule's set, then the offer, whose promise is the trial's end. Assumes nothing.
 use native.Mathlib.Omega.{arith}
-use Prim.Native.Nat.{ℕ, _+_, _-_, _*_, _^_, _≤_, _<_}
-use mathlib.Core.Path.{_≡_, refl, sym, ap, _∙_}
-use lib.ListN.{length, getD}
+use Prim.Native.Nat.{_-_}
+use mathlib.Core.Path.{_≡_, refl, sym, _∙_}
 use borrow.Author.Needs.{needs}
 use borrow.Author.Tests.{not-true, not-false}
-use Rattle.keys.specs.Keys.{bitsPerRow}
-use Rattle.tables.specs.Sizes.{mostCells}
-use Rattle.tables.specs.Checks.{Lawful}
 use Rattle.tables.proofs.CatalogueLaws.{lawful-all}
 use Rattle.rows.proofs.NamedLaws.{named-iff, place-there}
-use Rattle.store.specs.Store.{storeIn, OfferPost}
-use Rattle.machine.specs.Machine.{placed, keyAt, trialOn}
+use Rattle.store.specs.Store.{storeIn}
+use Rattle.machine.specs.Machine.{placed, trialOn}
 use Rattle.machine.proofs.TrialLaws.{foundAfter, trial-lost, offer-trial}
-use Rattle.stream.specs.Promises.{stateOf, Tries}
+use Rattle.stream.specs.Promises.{stateOf}
 use Rattle.stream.proofs.StreamLaws.{taken-some, keys-long, offer-stays}
 use mathlib.Core.Logic.{inl, inr}
 use Rattle.stream.proofs.trial.Statement.{statement}

@@ -1,12 +1,11 @@
 -- `stream::work` meets its contract. Invariant: the whole call is the counts so far, and what is left of it from here; the stream fits. Assumes nothing.
 use borrow.Author.Needs.{needs}
 use native.Mathlib.Omega.{arith}
-use Prim.Native.Nat.{ℕ, _+_, _-_, _*_, _^_, _≤_, _<_}
-use mathlib.Core.Path.{_≡_, refl, sym, ap, _∙_}
-use lib.ListN.{length, getD}
+use Prim.Native.Nat.{_+_, _-_, _*_, _≤_, _<_}
+use mathlib.Core.Path.{_≡_, refl, sym, _∙_}
+use lib.ListN.{length}
 use native.Mathlib.Nat.{le-antisymm}
 use Rattle.tables.specs.Catalogues.{total}
-use Rattle.tables.specs.Checks.{Lawful}
 use Rattle.tables.proofs.CatalogueLaws.{lawful-all}
 use Rattle.machine.specs.Machine.{stateIn, Fit, done, trialOn, work}
 use Rattle.machine.proofs.TrialLaws.{trial-fit}

@@ -1,8 +1,7 @@
 -- `tables::count_fault` meets its contract: one law for each way; a table has at most 16,320 cells, so the sum fits. Assumes nothing.
 use native.Mathlib.Omega.{arith}
-use Prim.Native.Nat.{ℕ, _+_, _-_, _*_, _^_, _≤_, _<_}
-use mathlib.Core.Path.{_≡_, refl, sym, ap, _∙_}
-use lib.ListN.{length, getD}
+use Prim.Native.Nat.{_-_}
+use mathlib.Core.Path.{sym}
 use borrow.Author.Needs.{needs}
 use Rattle.tables.proofs.CatalogueLaws.{cells-few}
 use Rattle.tables.proofs.CheckLaws.{count-many, count-most, count-lent, count-good}

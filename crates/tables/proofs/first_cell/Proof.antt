@@ -1,12 +1,9 @@
 -- `tables::first_cell` meets its contract. Invariant: the sum is the cells of the tables below t. Assumes nothing.
 use borrow.Author.Needs.{needs}
 use native.Mathlib.Omega.{arith}
-use Prim.Native.Nat.{ℕ, _+_, _-_, _*_, _^_, _≤_, _<_}
-use mathlib.Core.Path.{_≡_, refl, sym, ap, _∙_}
-use lib.ListN.{length, getD}
-use lib.Count.{ones}
-use Rattle.tables.specs.Sizes.{mostCells}
-use Rattle.tables.specs.Catalogues.{schemeOf, countOf, firstCell}
+use Prim.Native.Nat.{_-_, _≤_}
+use mathlib.Core.Path.{_≡_, refl}
+use Rattle.tables.specs.Catalogues.{firstCell}
 use Rattle.tables.proofs.CatalogueLaws.{cells-next, table-ends}
 use Rattle.tables.proofs.first_cell.Statement.{statement}
 use Rattle.tables.proofs.first_cell.Tie as tie

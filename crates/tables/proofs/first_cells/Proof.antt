@@ -2,15 +2,14 @@
 use borrow.Author.Needs.{needs}
 use native.Mathlib.Omega.{arith}
 use native.Mathlib.Decide.{ℕ-discrete}
-use Prim.Native.Nat.{ℕ, _+_, _-_, _*_, _^_, _≤_, _<_}
-use mathlib.Core.Path.{_≡_, refl, sym, ap, _∙_}
+use Prim.Native.Nat.{ℕ, _+_, _-_, _*_, _≤_, _<_}
+use mathlib.Core.Path.{_≡_, refl, _∙_}
 use mathlib.Core.List.{List}
 use lib.ListN.{length, getD, set, length-set}
 use lib.Seq.{getD-set-same, getD-set-other}
-use lib.Count.{ones}
 use Rattle.tables.specs.declared.Catalogue.{Catalogue}
 use Rattle.tables.specs.Sizes.{mostTables, mostCells}
-use Rattle.tables.specs.Catalogues.{schemeOf, countOf, firstCell, FirstCells}
+use Rattle.tables.specs.Catalogues.{countOf, firstCell}
 use Rattle.tables.proofs.CatalogueLaws.{cells-next, table-ends}
 use Rattle.tables.proofs.first_cells.Statement.{statement}
 use Rattle.tables.proofs.first_cells.Tie as tie

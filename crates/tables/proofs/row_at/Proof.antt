@@ -1,10 +1,9 @@
 -- `tables::row_at` meets its contract. Invariant: the whole answer is the answer from table t on, with what is left of the place. Assumes nothing.
 use borrow.Author.Needs.{needs}
 use native.Mathlib.Omega.{arith}
-use Prim.Native.Nat.{ℕ, _+_, _-_, _*_, _^_, _≤_, _<_}
-use mathlib.Core.Path.{_≡_, refl, sym, ap, _∙_}
-use lib.ListN.{length, getD}
-use Rattle.tables.specs.Catalogues.{countOf, rowsBefore, rowFrom, rowAt}
+use Prim.Native.Nat.{_+_, _-_, _≤_}
+use mathlib.Core.Path.{_≡_, sym, _∙_}
+use Rattle.tables.specs.Catalogues.{rowFrom, rowAt}
 use Rattle.tables.proofs.CatalogueLaws.{rows-few, row-here, row-later, row-past}
 use Rattle.tables.proofs.row_at.Statement.{statement}
 use Rattle.tables.proofs.row_at.Tie as tie

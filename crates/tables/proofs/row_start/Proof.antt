@@ -1,11 +1,8 @@
 -- `tables::row_start` meets its contract: a row of a lawful catalogue begins inside its cells. Assumes nothing.
 use native.Mathlib.Omega.{arith}
-use Prim.Native.Nat.{ℕ, _+_, _-_, _*_, _^_, _≤_, _<_}
-use mathlib.Core.Path.{_≡_, refl, sym, ap, _∙_}
-use lib.ListN.{length, getD}
+use Prim.Native.Nat.{_-_}
 use borrow.Author.Needs.{needs}
-use lib.Count.{ones}
-use Rattle.tables.specs.Catalogues.{schemeOf, countOf, rowStart}
+use Rattle.tables.specs.Catalogues.{rowStart}
 use Rattle.tables.proofs.CatalogueLaws.{row-inside}
 use Rattle.tables.proofs.row_start.Statement.{statement}
 use Rattle.tables.proofs.row_start.Tie as tie

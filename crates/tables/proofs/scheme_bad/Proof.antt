@@ -1,8 +1,6 @@
 -- `tables::scheme_bad` meets its contract: what stands above bit m is the scheme divided by 2 ^ m. Assumes nothing.
-use native.Mathlib.Omega.{arith}
-use Prim.Native.Nat.{ℕ, _+_, _-_, _*_, _^_, _≤_, _<_}
-use mathlib.Core.Path.{_≡_, refl, sym, ap, _∙_}
-use lib.ListN.{length, getD}
+use Prim.Native.Nat.{_-_}
+use mathlib.Core.Path.{sym}
 use borrow.Author.Needs.{needs}
 use Rattle.tables.proofs.CheckLaws.{scheme-zero, scheme-high, scheme-good, narrow, wide}
 use Rattle.tables.proofs.scheme_bad.Statement.{statement}

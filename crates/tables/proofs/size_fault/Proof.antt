@@ -1,9 +1,6 @@
 -- `tables::size_fault` meets its contract: one law for each way. Assumes nothing.
-use borrow.Author.Needs.{needs}
-use native.Mathlib.Omega.{arith}
-use Prim.Native.Nat.{ℕ, _+_, _-_, _*_, _^_, _≤_, _<_}
-use mathlib.Core.Path.{_≡_, refl, sym, ap, _∙_}
-use lib.ListN.{length, getD}
+use Prim.Native.Nat.{_-_}
+use mathlib.Core.Path.{sym}
 use Rattle.tables.specs.Sizes.{mostAttributes, mostTables}
 use Rattle.tables.proofs.CheckLaws.{inside, below, above, size-m, size-n, size-good}
 use Rattle.tables.proofs.size_fault.Statement.{statement}

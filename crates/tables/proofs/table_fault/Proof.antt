@@ -1,8 +1,6 @@
 -- `tables::table_fault` meets its contract: the scheme first, then the count. Assumes nothing.
-use native.Mathlib.Omega.{arith}
-use Prim.Native.Nat.{ℕ, _+_, _-_, _*_, _^_, _≤_, _<_}
-use mathlib.Core.Path.{_≡_, refl, sym, ap, _∙_}
-use lib.ListN.{length, getD}
+use Prim.Native.Nat.{_-_}
+use mathlib.Core.Path.{sym, _∙_}
 use borrow.Author.Needs.{needs}
 use Rattle.tables.proofs.CheckLaws.{table-scheme, table-count}
 use Rattle.tables.proofs.table_fault.Statement.{statement}

@@ -1,9 +1,8 @@
 -- `tables::total_rows` meets its contract. Invariant: the sum is the rows of the tables below t. Assumes nothing.
 use borrow.Author.Needs.{needs}
 use native.Mathlib.Omega.{arith}
-use Prim.Native.Nat.{ℕ, _+_, _-_, _*_, _^_, _≤_, _<_}
-use mathlib.Core.Path.{_≡_, refl, sym, ap, _∙_}
-use lib.ListN.{length, getD}
+use Prim.Native.Nat.{_+_, _-_, _≤_}
+use mathlib.Core.Path.{_≡_, refl, ap, _∙_}
 use Rattle.tables.specs.Catalogues.{rowsBefore}
 use Rattle.tables.proofs.CatalogueLaws.{rows-next, rows-few}
 use Rattle.tables.proofs.total_rows.Statement.{statement}

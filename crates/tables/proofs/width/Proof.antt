@@ -1,8 +1,6 @@
 -- `tables::width` meets its contract: a word of 64 bits has at most 64 ones. Assumes nothing.
 use native.Mathlib.Omega.{arith}
-use Prim.Native.Nat.{ℕ, _+_, _-_, _*_, _^_, _≤_, _<_}
-use mathlib.Core.Path.{_≡_, refl, sym, ap, _∙_}
-use lib.ListN.{length, getD}
+use Prim.Native.Nat.{_-_}
 use borrow.Author.Needs.{needs}
 use lib.Count.{ones-le}
 use Rattle.tables.proofs.width.Statement.{statement}

@@ -1,8 +1,6 @@
 -- `verdicts::number_of` meets its contract: the bound on places keeps the product and the sum small. Assumes nothing.
 use native.Mathlib.Omega.{arith}
-use Prim.Native.Nat.{ℕ, _+_, _-_, _*_, _^_, _≤_, _<_}
-use mathlib.Core.Path.{_≡_, refl, sym, ap, _∙_}
-use lib.ListN.{length, getD}
+use Prim.Native.Nat.{_-_}
 use borrow.Author.Needs.{needs}
 use Rattle.image.specs.declared.Verdict.the-variants.{Refused}
 use Rattle.image.specs.Load.{farthest, NearVerdict}

@@ -5,7 +5,7 @@ use Rattle.image.proofs.ReadingLaws.{run-none, run-more, run-bad, codes
 use Rattle.laws.proofs.ListLaws.{put-cons, put-nil}
 use mathlib.Core.List.{_∷_}
 use lib.ListN.{length, length-set}
-use Prim.Native.Nat.{_+_, _-_, _*_, _^_, _<_, _≤_}
+use Prim.Native.Nat.{_+_, _-_}
 use mathlib.Core.Path.{_≡_, refl, sym, ap, _∙_}
 use borrow.Author.Needs.{needs}
 use native.Mathlib.Omega.{arith}

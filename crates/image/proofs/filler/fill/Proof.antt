@@ -1,15 +1,13 @@
 -- `image::filler::fill` meets its contract. Invariant: what is left to fill from here on makes the whole answer, and the tables left are good. Assumes nothing.
 use borrow.Author.Needs.{needs}
 use native.Mathlib.Omega.{arith}
-use Prim.Native.Nat.{ℕ, _+_, _-_, _*_, _^_, _≤_, _<_}
+use Prim.Native.Nat.{_+_, _-_, _*_, _≤_}
 use mathlib.Core.Path.{_≡_, refl, sym, ap, _∙_}
-use lib.ListN.{length, getD}
+use lib.ListN.{length}
 use native.Mathlib.Nat.{le-refl, mul-le-mul-right}
-use mathlib.Core.List.{_++_}
-use borrow.Rule.Slice.PartMut.{putMid, mid-len}
+use borrow.Rule.Slice.PartMut.{mid-len}
 use Rattle.laws.specs.Lists.{put, over}
 use Rattle.laws.proofs.ListLaws.{put-nil, over-append, length-over, lent}
-use Rattle.tables.specs.Sizes.{mostRows}
 use Rattle.image.specs.Reading.{codes}
 use Rattle.image.specs.Load.{firstTable, tablesCodes, Fillable}
 use Rattle.image.proofs.ReadingLaws.{no-walk}

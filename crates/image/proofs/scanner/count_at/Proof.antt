@@ -1,12 +1,10 @@
 -- `image::scanner::count_at` meets its contract: one law for each way; a good count's cells are few enough to add. Assumes nothing.
 use native.Mathlib.Omega.{arith}
-use Prim.Native.Nat.{ℕ, _+_, _-_, _*_, _^_, _≤_, _<_}
-use mathlib.Core.Path.{_≡_, refl, sym, ap, _∙_}
-use lib.ListN.{length, getD}
+use Prim.Native.Nat.{ℕ, _-_}
+use mathlib.Core.Path.{sym, ap, _∙_}
 use borrow.Author.Needs.{needs}
 use Rattle.tables.proofs.CheckLaws.{Counted, fault-counted}
 use Rattle.image.proofs.LoadLaws.{count-bad, count-fault, count-rows}
-use denote.Ref.{now}
 use Rattle.image.specs.declared.Entry.the-variants.{TableFault}
 use Rattle.image.proofs.scanner.count_at.Statement.{statement}
 use Rattle.image.proofs.scanner.count_at.Tie as tie

@@ -1,6 +1,5 @@
 -- `image::scanner::field_at` meets its contract: one law for each way. Assumes nothing.
-use mathlib.Core.Path.{_≡_, refl, sym, ap, _∙_}
-use native.Mathlib.Omega.{arith}
+use mathlib.Core.Path.{sym, _∙_}
 use denote.Ref.{now}
 use Rattle.image.proofs.LoadLaws.{field-bad, field-out, field-in}
 use Rattle.tables.proofs.CheckLaws.{inside, below, above}

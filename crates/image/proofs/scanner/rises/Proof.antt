@@ -4,8 +4,8 @@ use Rattle.image.proofs.ReadingLaws.{codes-none, codes-more, codes-bad}
 use Rattle.tables.specs.Rows.{below}
 use Rattle.tables.proofs.RowLaws.{below-none, below-bad, below-lt, below-gt, below-eq}
 use Rattle.image.specs.Reading.{codes}
-use Prim.Native.Nat.{_+_, _-_, _*_, _^_, _<_, _≤_}
-use mathlib.Core.Path.{_≡_, refl, sym, ap, _∙_}
+use Prim.Native.Nat.{_-_}
+use mathlib.Core.Path.{_≡_, refl, sym, _∙_}
 use borrow.Author.Needs.{needs}
 use native.Mathlib.Omega.{arith}
 use denote.Ref.{now}

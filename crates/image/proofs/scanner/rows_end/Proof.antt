@@ -2,10 +2,10 @@
 use Rattle.image.specs.Reading.{codes, rowsFrom}
 use Rattle.tables.specs.Rows.{below}
 use Rattle.image.proofs.ReadingLaws.{rows-none, rows-more, rows-bad, rows-fall}
-use mathlib.Core.Bool.{Bool, true, false, _||_}
+use mathlib.Core.Bool.{true, _||_}
 use mathlib.Core.Logic.{⊎-elim}
-use Prim.Native.Nat.{_+_, _-_, _*_, _^_, _<_, _≤_}
-use mathlib.Core.Path.{_≡_, refl, sym, ap, _∙_}
+use Prim.Native.Nat.{_-_}
+use mathlib.Core.Path.{_≡_, refl, sym, _∙_}
 use borrow.Author.Needs.{needs}
 use native.Mathlib.Omega.{arith}
 use denote.Ref.{now}

@@ -1,14 +1,6 @@
 -- `image::scanner::rows_entry` meets its contract: the end of the rows makes the entry. Assumes nothing.
-use native.Mathlib.Omega.{arith}
-use Prim.Native.Nat.{ℕ, _+_, _-_, _*_, _^_, _≤_, _<_}
-use mathlib.Core.Path.{_≡_, refl, sym, ap, _∙_}
-use lib.ListN.{length, getD}
+use Prim.Native.Nat.{_-_}
 use borrow.Author.Needs.{needs}
-use lib.Count.{ones}
-use Rattle.image.specs.Reading.{rowsFrom}
-use Rattle.image.specs.Load.{entryOf}
-use denote.Ref.{now}
-use mathlib.Core.Bool.{true}
 use Rattle.image.proofs.scanner.rows_entry.Statement.{statement}
 use Rattle.image.proofs.scanner.rows_entry.Tie as tie
 

@@ -1,8 +1,8 @@
 -- `image::scanner::run_end` meets its contract. Invariant: the whole answer is the answer from here. Assumes nothing.
 use Rattle.image.proofs.ReadingLaws.{run-none, run-more, run-bad}
 use Rattle.image.specs.Reading.{runEnd}
-use Prim.Native.Nat.{_+_, _-_, _*_, _^_, _<_, _≤_}
-use mathlib.Core.Path.{_≡_, refl, sym, ap, _∙_}
+use Prim.Native.Nat.{_-_}
+use mathlib.Core.Path.{_≡_, refl, sym, _∙_}
 use borrow.Author.Needs.{needs}
 use native.Mathlib.Omega.{arith}
 use denote.Ref.{now}

@@ -1,5 +1,5 @@
 -- `image::scanner::scan` meets its contract: version, m and n, each by its own law, then the tables. Assumes nothing.
-use mathlib.Core.Path.{_≡_, refl, sym, ap, _∙_}
+use mathlib.Core.Path.{sym, _∙_}
 use native.Mathlib.Omega.{arith}
 use denote.Ref.{now}
 use Rattle.image.proofs.LoadLaws.{good-field, head-version, head-m, head-n, head-good}

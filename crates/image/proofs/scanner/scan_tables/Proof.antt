@@ -3,8 +3,8 @@ use Rattle.image.specs.Load.{tablesFrom}
 use Rattle.tables.specs.Sizes.{mostCells}
 use Rattle.image.proofs.LoadLaws.{good-table, good-clear, tables-over, tables-end, tables-bad, tables-more}
 use lib.ListN.{length, replicate, length-set}
-use Prim.Native.Nat.{_+_, _-_, _*_, _^_, _<_, _≤_}
-use mathlib.Core.Path.{_≡_, refl, sym, ap, _∙_}
+use Prim.Native.Nat.{_+_, _-_, _≤_}
+use mathlib.Core.Path.{_≡_, refl, sym, _∙_}
 use borrow.Author.Needs.{needs}
 use native.Mathlib.Omega.{arith}
 use denote.Ref.{now}

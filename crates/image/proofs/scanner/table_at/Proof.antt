@@ -1,8 +1,6 @@
 -- `image::scanner::table_at` meets its contract: one law for each way. Assumes nothing.
-use native.Mathlib.Omega.{arith}
-use Prim.Native.Nat.{ℕ, _+_, _-_, _*_, _^_, _≤_, _<_}
-use mathlib.Core.Path.{_≡_, refl, sym, ap, _∙_}
-use lib.ListN.{length, getD}
+use Prim.Native.Nat.{_-_}
+use mathlib.Core.Path.{sym, _∙_}
 use borrow.Author.Needs.{needs}
 use Rattle.image.proofs.LoadLaws.{table-bad, table-scheme, table-count}
 use Rattle.image.proofs.scanner.table_at.Statement.{statement}
