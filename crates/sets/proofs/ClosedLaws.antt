@@ -40,23 +40,23 @@ or-no : (b : Bool) → b ≡ (b || false)
 or-no true = refl
 or-no false = refl
 
-module _ (cat : Catalogue) (t attrs closed : ℕ) where
-  pub closes-too : (bitAnd (schemeOf cat t) attrs ≡ 0 → ⊥) → (k : ℕ) → k ≡ 2 ^ t → (u : ℕ) → bitOf (bitOr closed k) u ≡ closes cat t attrs closed u
+module _ (scheme t attrs closed : ℕ) where
+  pub closes-too : (bitAnd scheme attrs ≡ 0 → ⊥) → (k : ℕ) → k ≡ 2 ^ t → (u : ℕ) → bitOf (bitOr closed k) u ≡ closes scheme t attrs closed u
   unfolding closes
-  closes-too s k e u = rw (e, bit-or closed (2 ^ t) u, one-is t u, ne-eqb (bitAnd (schemeOf cat t) attrs) 0 s)
+  closes-too s k e u = rw (e, bit-or closed (2 ^ t) u, one-is t u, ne-eqb (bitAnd scheme attrs) 0 s)
 
-  pub closes-not : bitAnd (schemeOf cat t) attrs ≡ 0 → (u : ℕ) → bitOf closed u ≡ closes cat t attrs closed u
+  pub closes-not : bitAnd scheme attrs ≡ 0 → (u : ℕ) → bitOf closed u ≡ closes scheme t attrs closed u
   unfolding closes
-  closes-not z u = rw (eq-eqb (bitAnd (schemeOf cat t) attrs) 0 z) (or-no (bitOf closed u))
+  closes-not z u = rw (eq-eqb (bitAnd scheme attrs) 0 z) (or-no (bitOf closed u))
 
   -- A table that is closed now.
-  closes-case : (u : ℕ) → closes cat t attrs closed u ≡ true → (bitOf closed u ≡ true) ⊎ ((not (eqb (bitAnd (schemeOf cat t) attrs) 0) ≡ true) × (u ≡ t))
+  closes-case : (u : ℕ) → closes scheme t attrs closed u ≡ true → (bitOf closed u ≡ true) ⊎ ((not (eqb (bitAnd scheme attrs) 0) ≡ true) × (u ≡ t))
   unfolding closes
   closes-case u h =
       ⊎-elim
       (λ e. inl e)
-      (λ e. let w = and-split (not (eqb (bitAnd (schemeOf cat t) attrs) 0)) (eqb u t) e in inr (w .0, eqb-true u t (w .1)))
-      (or-case (bitOf closed u) (not (eqb (bitAnd (schemeOf cat t) attrs) 0) && eqb u t) h)
+      (λ e. let w = and-split (not (eqb (bitAnd scheme attrs) 0)) (eqb u t) e in inr (w .0, eqb-true u t (w .1)))
+      (or-case (bitOf closed u) (not (eqb (bitAnd scheme attrs) 0) && eqb u t) h)
 
 -- ---- the walk
 
@@ -75,7 +75,7 @@ module _ (cat : Catalogue) (cells : List ℕ) (key : ℕ) where
     -- A table that was walked without a fit, and shares an attribute with the set, is closed.
     pub shut-more : (lent : ℕ) → Lawful cat lent → (t attrs i : ℕ) → t < cat .n → Attributes cat (at (setOf cat key)) attrs
         → FirstIn (countOf cat t) (tested cat cells key t) i → countOf cat t ≤ i
-        → (k : ℕ) → ((u : ℕ) → bitOf k u ≡ closes cat t attrs closed u) → Shut cat cells key k
+        → (k : ℕ) → ((u : ℕ) → bitOf k u ≡ closes (schemeOf cat t) t attrs closed u) → Shut cat cells key k
     shut-more lent L t attrs i l A f b k e = record { lost = each }
       where
         each : (u : ℕ) → u < cat .n → bitOf k u ≡ true → (j : ℕ) → j < countOf cat u → Lost (worldOf cat cells) (setOf cat key) (record { table = u; row = suc j })
@@ -87,7 +87,7 @@ module _ (cat : Catalogue) (cells : List ℕ) (key : ℕ) where
             (test-lost (worldOf cat cells) (setOf cat key) (record { table = t; row = suc j }) (in-length bitsPerRow (cat .n) key)
             (near-mask cat cells lent L (setOf cat key) (record { table = t; row = suc j }) (in-length bitsPerRow (cat .n) key) l attrs A ∙ w .0)
             (f .before j (omega (arith, b, rw (w .1) at d)))))
-            (closes-case cat t attrs closed u (sym (e u) ∙ h))
+            (closes-case (schemeOf cat t) t attrs closed u (sym (e u) ∙ h))
 
     -- The set grows by a row.
     pub shut-grown : (t i : ℕ) → OneMore (at (setOf cat key)) (at (setOf cat (withRow bitsPerRow key t (suc i)))) t (suc i) → Shut cat cells (withRow bitsPerRow key t (suc i)) closed

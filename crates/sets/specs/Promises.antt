@@ -4,16 +4,19 @@ use Prim.Native.Nat.{ℕ, suc, _*_, _^_, _≤_, _<_}
 use mathlib.Core.Path.{_≡_}
 use mathlib.Core.Bool.{Bool, true, false, not, _&&_, _||_}
 use mathlib.Core.List.{List, []}
+use lib.ListN.{length}
 use lib.Bits.{bitAnd}
 use lib.Dec.{eqb}
 use Rattle.words.specs.Words.{bitOf}
 use Rattle.keys.specs.Keys.{bitsPerRow, keyOf}
 use Rattle.tables.specs.declared.Catalogue.{Catalogue}
-use Rattle.tables.specs.Catalogues.{schemeOf}
+use Rattle.tables.specs.Catalogues.{schemeOf, countOf, firstCell}
+use Rattle.tables.specs.Checks.{Lawful}
 use Rattle.disjunction.specs.Sets.{Tables, at}
 use Rattle.disjunction.specs.Rule.{Place, Grown, rowIn, member, joins, rowTest}
 use Rattle.rows.specs.World.{worldOf, setOf}
 use Rattle.rows.specs.Named.{Named}
+use Rattle.sets.specs.Merged.{Merged}
 
 -- i is the first of the numbers below k that passes; k where none does.
 pub record FirstIn (k : ℕ) (ok : ℕ → Bool) (i : ℕ) : Type 0 where
@@ -29,9 +32,21 @@ NoneIn k ok = (i : ℕ) → i < k → ok i ≡ false
 abbrev pub tested : Catalogue → List ℕ → ℕ → ℕ → ℕ → Bool
 tested cat cells key t i = rowTest (worldOf cat cells) (setOf cat key) (record { table = t; row = suc i })
 
--- Table u is closed, after table t was walked without a fit to a set with the attributes `attrs`: it was before, or it is t, which shares one of them.
-unfoldable pub closes : Catalogue → ℕ → ℕ → ℕ → ℕ → Bool
-closes cat t attrs closed u = bitOf closed u || (not (eqb (bitAnd (schemeOf cat t) attrs) 0) && eqb u t)
+-- These are the scheme, the first cell and the row count of table t, and the merged row is that of the key's set. A closed table has no row that the
+-- row test admits.
+pub record TableOf (cat : Catalogue) (cells : List ℕ) (key t scheme base count attrs closed : ℕ) (codes : List ℕ) : Type 0 where
+  pub lawful : Lawful cat (length cells)
+  pub table : t < cat .n
+  pub has-scheme : scheme ≡ schemeOf cat t
+  pub has-base : base ≡ firstCell cat t
+  pub has-count : count ≡ countOf cat t
+  pub merged : Merged cat cells (at (setOf cat key)) codes attrs
+  pub none : bitOf closed t ≡ true → NoneIn count (tested cat cells key t)
+
+-- Table u is closed, after table t of this scheme was walked without a fit to a set with the attributes `attrs`: it was before, or it is t, which shares
+-- one of them.
+unfoldable pub closes : ℕ → ℕ → ℕ → ℕ → ℕ → Bool
+closes scheme t attrs closed u = bitOf closed u || (not (eqb (bitAnd scheme attrs) 0) && eqb u t)
 
 -- `key` is the key of the set T.
 pub record KeyFor (cat : Catalogue) (T : List ℕ) (key : ℕ) : Type 0 where

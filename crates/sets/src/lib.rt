@@ -9,14 +9,14 @@ ghost use lib.Count.{ones};
 ghost use Rattle.words.specs.Words.{bitOf};
 ghost use Rattle.keys.specs.Keys.{bitsPerRow};
 ghost use Rattle.tables.specs.Sizes.{mostTables, mostRows, mostCells};
-ghost use Rattle.tables.specs.Catalogues.{countOf, firstCell, FirstCells};
+ghost use Rattle.tables.specs.Catalogues.{firstCell, FirstCells};
 ghost use Rattle.tables.specs.Checks.{Lawful};
 ghost use Rattle.disjunction.specs.Sets.{at};
 ghost use Rattle.disjunction.specs.Rule.{extension, dropped, piece, trial};
 ghost use Rattle.rows.specs.World.{worldOf, setOf, placeOf};
 ghost use Rattle.rows.specs.Named.{Named, There};
 ghost use Rattle.sets.specs.Merged.{mergedLength, Under, Attributes, Merged, matches, joint, Joined, Added, rowIn, only, Places, NextEqual};
-ghost use Rattle.sets.specs.Promises.{FirstIn, NoneIn, tested, closes, KeyFor, Comes, parts, joinsIn};
+ghost use Rattle.sets.specs.Promises.{FirstIn, tested, TableOf, closes, KeyFor, Comes, parts, joinsIn};
 use tables::Catalogue;
 use tables::Row;
 
@@ -197,29 +197,28 @@ fn first_fit(
     count
 }
 
-// The first row of table t, from 0, that the row test admits; their number where it admits none. The table's cells begin at `base`.
+// The first row of table t, from 0, that the row test admits; their number where it admits none. The table has this scheme and count of rows, and its cells begin at `base`.
 // A table that is closed or present, or that shares no attribute with the set, is passed over whole.
 fn find_in(
-    cat: Catalogue,
     cells: &[u64],
     key: u64,
     t: usize,
+    scheme: u64,
     base: usize,
+    count: usize,
     attrs: u64,
     closed: u64,
     merged: &[u64; 64],
 ) -> usize
-    requires { ⌜ Lawful cat (length (now cells)) × (t < cat .n) × (base ≡ firstCell cat t) × Merged cat (now cells) (at (setOf cat key)) (now merged) attrs × (bitOf closed t ≡ true → NoneIn (countOf cat t) (tested cat (now cells) key t)) ⌝ }
-    ensures { λ r. ⌜ FirstIn (countOf cat t) (tested cat (now (cells .entry)) key t) r ⌝ }
+    requires { ⌜ (t < mostTables) × (rowIn base scheme count ≤ length (now cells)) ⌝ }
+    ensures { λ r. ⌜ ((cat : Catalogue) → TableOf cat (now (cells .entry)) key t scheme base count attrs closed (now (merged .entry)) → FirstIn count (tested cat (now (cells .entry)) key t) r) ⌝ }
 {
-    let count = cat.rows[t] as usize;
     if words::bit_of(closed, t) {
         return count;
     }
     if keys::row_of(key, t) != 0 {
         return count;
     }
-    let scheme = cat.schemes[t];
     let shared = scheme & attrs;
     if shared == 0 {
         return count;
@@ -227,13 +226,13 @@ fn find_in(
     first_fit(cells, scheme, base, count, shared, merged)
 }
 
-// The closed tables, after table t was walked without a fit to a set with the attributes `attrs`: where it shares one of them, it is closed too.
+// The closed tables, after table t of this scheme was walked without a fit to a set with the attributes `attrs`: where it shares one of them, it is closed too.
 // A row that shares an attribute with the set and does not fit it never fits it later, since the set only grows.
-fn close_if(cat: Catalogue, t: usize, attrs: u64, closed: u64) -> u64
+fn close_if(scheme: u64, t: usize, attrs: u64, closed: u64) -> u64
     requires { ⌜ t < mostTables ⌝ }
-    ensures { λ r. ⌜ ((u : ℕ) → bitOf r u ≡ closes cat t attrs closed u) ⌝ }
+    ensures { λ r. ⌜ ((u : ℕ) → bitOf r u ≡ closes scheme t attrs closed u) ⌝ }
 {
-    let common = cat.schemes[t] & attrs;
+    let common = scheme & attrs;
     if common != 0 {
         return closed | (1 << t);
     }
@@ -258,15 +257,17 @@ pub fn extend(cat: Catalogue, cells: &[u64], firsts: [usize; 8], from: u64) -> G
             if t == n {
                 break 'rounds;
             }
+            let scheme = cat.schemes[t];
+            let base = firsts[t];
             let count = cat.rows[t] as usize;
-            let i = find_in(cat, cells, key, t, firsts[t], attrs, closed, &merged);
+            let i = find_in(cells, key, t, scheme, base, count, attrs, closed, &merged);
             if i < count {
                 let row = i + 1;
                 tests = tests + row;
                 break Row { table: t, row };
             }
             tests = tests + count;
-            closed = close_if(cat, t, attrs, closed);
+            closed = close_if(scheme, t, attrs, closed);
             t += 1;
         };
         let table = found.table;
