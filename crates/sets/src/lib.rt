@@ -376,7 +376,7 @@ fn first_joining(cat: Catalogue, all: u64, part: u64, attrs: u64) -> usize
 }
 
 // "Keep the piece that holds s": from x alone, rows of the set that touch what is there are added until there is none.
-// The order in which they come in makes no difference: there is one piece only.
+// The order in which they come in makes no difference, as there is one piece only; and where the part is the whole set, no table is asked any more.
 fn piece_of(cat: Catalogue, all: u64, x: Row) -> u64
     requires { ⌜ Lawful cat mostCells × There cat (x .table) (x .row) × (at (setOf cat all) (x .table) ≡ x .row) ⌝ }
     ensures { λ k. ⌜ ((cells : List ℕ) → KeyFor cat (piece (worldOf cat cells) (setOf cat all) (placeOf x)) k) ⌝ }
@@ -387,6 +387,9 @@ fn piece_of(cat: Catalogue, all: u64, x: Row) -> u64
     let mut part = keys::with_row(0, table, row as u64);
     let mut attrs = cat.schemes[table];
     loop {
+        if part == all {
+            return part;
+        }
         let u = first_joining(cat, all, part, attrs);
         if u == n {
             return part;
