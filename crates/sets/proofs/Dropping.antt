@@ -29,7 +29,7 @@ use Rattle.rows.specs.World.{worldOf, setOf, fitsIn}
 use Rattle.rows.specs.Named.{Named, There}
 use Rattle.rows.proofs.WorldLaws.{world-symmetric, row-room}
 use Rattle.sets.specs.Merged.{mergedLength, Merged, matches, Added, rowIn, only}
-use Rattle.sets.specs.Promises.{FirstIn, KeyFor, parts}
+use Rattle.sets.specs.Promises.{FirstIn, KeyFor, parts, ForDrop}
 use Rattle.sets.proofs.MatchLaws.{matches-none}
 use Rattle.sets.proofs.MergedLaws.{matches-fits, merged-none, merged-add, only-here, only-other, only-more}
 use Rattle.sets.proofs.RowTestLaws.{first-one, start-of}
@@ -95,34 +95,35 @@ fits-one cat cells lent L t r u q codes mask p M =
     each h v m (yes e) = rw (e, only-here t r) h
     each h v m (no g) = absurd (omega (arith, m, only-other t r v g))
 
--- The row q of table u in a key's set, with its cells as the code finds them: they are there, and they tell whether the row has to go.
-module _ (cat : Catalogue) (lent : ℕ) (L : Lawful cat lent) (key u q base w : ℕ) (l : u < cat .n) (e : q ≡ rowOf bitsPerRow key u) (p : q ≡ 0 → ⊥)
-    (b : base ≡ firstCell cat u) (f : w ≡ ones (schemeOf cat u)) where
-  pub member-room : Named cat key → (base + (q - 1) * w) + ones (schemeOf cat u) ≤ lent
-  member-room N =
-      rw (f, start-of cat u q base b) (row-room cat lent L u q (record { table = l; low = omega (arith, p); high = rw e (N .rows u l) }))
+-- The cells of a key's row of table u are there.
+pub member-room : (cat : Catalogue) (lent : ℕ) → Lawful cat lent → (key u base : ℕ) → Named cat key → u < cat .n → base ≡ firstCell cat u → 0 < rowOf bitsPerRow key u
+    → rowIn base (schemeOf cat u) (rowOf bitsPerRow key u - 1) + ones (schemeOf cat u) ≤ lent
+member-room cat lent L key u base N l b p =
+    rw (start-of cat u (rowOf bitsPerRow key u) base b)
+    (row-room cat lent L u (rowOf bitsPerRow key u) (record { table = l; low = p; high = N .rows u l }))
 
-  module _ (cells : List ℕ) (s : Place) (codes : List ℕ) (mask : ℕ) (r : 0 < s .row) (d : u ≢ s .table) (M : Merged cat cells (only (s .table) (s .row)) codes mask) where
-    parts-answer : parts (worldOf cat cells) (setOf cat key) s u ≡ not (matches cells (schemeOf cat u) (base + (q - 1) * w) (bitAnd (schemeOf cat u) mask) codes)
-    parts-answer =
-        let o : at (setOf cat key) u ≡ q = in-at bitsPerRow (cat .n) key u l ∙ sym e in
-        let m : fitsIn cat cells u (at (setOf cat key) u) (s .table) (s .row) ≡ matches cells (schemeOf cat u) (base + (q - 1) * w) (bitAnd (schemeOf cat u) mask) codes =
-        rw (o, f, start-of cat u q base b) (fits-one cat cells lent L (s .table) (s .row) u q codes mask r M) in
-        parts-fits (worldOf cat cells) (setOf cat key) s u d (omega (arith, p, o)) ∙ ap not m
+-- The row q of table u in a key's set, with its cells as the code finds them: they tell whether the row has to go.
+module _ (cat : Catalogue) (cells : List ℕ) (key : ℕ) (s : Place) (u scheme base mask : ℕ) (codes : List ℕ) (D : ForDrop cat cells key s u scheme base mask codes)
+    (q w : ℕ) (d : u ≢ s .table) (e : q ≡ rowOf bitsPerRow key u) (p : q ≡ 0 → ⊥) (f : w ≡ ones scheme) where
+  parts-answer : parts (worldOf cat cells) (setOf cat key) s u ≡ not (matches cells scheme (base + (q - 1) * w) (bitAnd scheme mask) codes)
+  parts-answer =
+      let o : at (setOf cat key) u ≡ q = in-at bitsPerRow (cat .n) key u (D .table) ∙ sym e in
+      let m : fitsIn cat cells u (at (setOf cat key) u) (s .table) (s .row) ≡ matches cells scheme (base + (q - 1) * w) (bitAnd scheme mask) codes =
+      rw (o, f, D .own, start-of cat u q base (D .begins)) (fits-one cat cells (length cells) (D .lawful) (s .table) (s .row) u q codes mask (D .row) (D .merged)) in
+      parts-fits (worldOf cat cells) (setOf cat key) s u d (omega (arith, p, o)) ∙ ap not m
 
-    -- It shares no attribute with s, or it is the first of one row that has the codes, or it is not.
-    pub parts-apart : bitAnd (schemeOf cat u) mask ≡ 0 → parts (worldOf cat cells) (setOf cat key) s u ≡ false
-    parts-apart z =
-        parts-answer
-        ∙ ap not (ap (λ (x : ℕ). matches cells (schemeOf cat u) (base + (q - 1) * w) x codes) z ∙ matches-none cells (schemeOf cat u) (base + (q - 1) * w) codes)
+  -- It shares no attribute with s, or it is the first of one row that has the codes, or it is not.
+  pub parts-apart : bitAnd scheme mask ≡ 0 → parts (worldOf cat cells) (setOf cat key) s u ≡ false
+  parts-apart z =
+      parts-answer
+      ∙ ap not (ap (λ (x : ℕ). matches cells scheme (base + (q - 1) * w) x codes) z ∙ matches-none cells scheme (base + (q - 1) * w) codes)
 
-    pub parts-first : (i : ℕ)
-        → FirstIn 1 (λ j. matches cells (schemeOf cat u) (rowIn (base + (q - 1) * w) (schemeOf cat u) j) (bitAnd (schemeOf cat u) mask) codes) i
-        → parts (worldOf cat cells) (setOf cat key) s u ≡ not (eqb i 0)
-    parts-first i h =
-        let z : rowIn (base + (q - 1) * w) (schemeOf cat u) 0 ≡ base + (q - 1) * w = omega arith in
-        parts-answer
-        ∙ ap not (ap (λ (x : ℕ). matches cells (schemeOf cat u) x (bitAnd (schemeOf cat u) mask) codes) (sym z) ∙ first-one _ i h)
+  pub parts-first : (i : ℕ) → FirstIn 1 (λ j. matches cells scheme (rowIn (base + (q - 1) * w) scheme j) (bitAnd scheme mask) codes) i
+      → parts (worldOf cat cells) (setOf cat key) s u ≡ not (eqb i 0)
+  parts-first i h =
+      let z : rowIn (base + (q - 1) * w) scheme 0 ≡ base + (q - 1) * w = omega arith in
+      parts-answer
+      ∙ ap not (ap (λ (x : ℕ). matches cells scheme x (bitAnd scheme mask) codes) (sym z) ∙ first-one _ i h)
 
 -- ---- table by table
 

@@ -59,6 +59,11 @@ module _ (cat : Catalogue) (all part : List ℕ) (u : ℕ) where
     pub join-there : (at part u ≡ 0 → ⊥) → joinsIn cat all part u ≡ false
     join-there h = not-yes (joinsIn cat all part u) (λ y. h (join-yes y .1))
 
+    -- No row joins the whole set.
+    pub join-whole : part ≡ all → joinsIn cat all part u ≡ false
+    join-whole e =
+        not-yes (joinsIn cat all part u) (λ y. let x = join-yes y in absurd (omega (arith, x .0, x .1, ap (λ (X : List ℕ). at X u) e)))
+
     pub join-mask : (lent : ℕ) → Lawful cat lent → u < cat .n → (mask : ℕ) → Attributes cat (at part) mask → Member all u → at part u ≡ 0
         → joinsIn cat all part u ≡ not (eqb (bitAnd (schemeOf cat u) mask) 0)
     unfolding joinsIn joins

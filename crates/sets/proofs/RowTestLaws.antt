@@ -10,7 +10,6 @@ use native.Mathlib.Nat.{eq-zero-or-pos, suc-mul, mul-le-mul-right}
 use native.Mathlib.Numerals.{add-one}
 use lib.ListN.{length}
 use lib.Bits.{bitAnd}
-use lib.Count.{ones}
 use lib.Dec.{eqb}
 use borrow.Author.Tests.{eq-eqb, ne-eqb}
 use Rattle.laws.specs.Tests.{any}

@@ -10,13 +10,14 @@ use lib.Dec.{eqb}
 use Rattle.words.specs.Words.{bitOf}
 use Rattle.keys.specs.Keys.{bitsPerRow, keyOf}
 use Rattle.tables.specs.declared.Catalogue.{Catalogue}
+use Rattle.tables.specs.Sizes.{mostCells}
 use Rattle.tables.specs.Catalogues.{schemeOf, countOf, firstCell}
 use Rattle.tables.specs.Checks.{Lawful}
 use Rattle.disjunction.specs.Sets.{Tables, at}
 use Rattle.disjunction.specs.Rule.{Place, Grown, rowIn, member, joins, rowTest}
 use Rattle.rows.specs.World.{worldOf, setOf}
 use Rattle.rows.specs.Named.{Named}
-use Rattle.sets.specs.Merged.{Merged}
+use Rattle.sets.specs.Merged.{Attributes, Merged, only}
 
 -- i is the first of the numbers below k that passes; k where none does.
 pub record FirstIn (k : ℕ) (ok : ℕ → Bool) (i : ℕ) : Type 0 where
@@ -64,6 +65,24 @@ pub record Comes (cat : Catalogue) (g : Grown) (to count : ℕ) : Type 0 where
 unfoldable pub parts : Tables → List ℕ → Place → ℕ → Bool
 parts W T s u = not (eqb u (s .table)) && member T u && not (W .fits u (at T u) (s .table) (s .row))
 
+-- What is asked of a drop: table u of the catalogue has this scheme and its cells begin at `base`, the key names rows that are there, and s is a row with
+-- these attributes and codes.
+pub record ForDrop (cat : Catalogue) (cells : List ℕ) (key : ℕ) (s : Place) (u scheme base attrs : ℕ) (codes : List ℕ) : Type 0 where
+  pub lawful : Lawful cat (length cells)
+  pub named : Named cat key
+  pub table : u < cat .n
+  pub own : scheme ≡ schemeOf cat u
+  pub begins : base ≡ firstCell cat u
+  pub row : 0 < s .row
+  pub merged : Merged cat cells (only (s .table) (s .row)) codes attrs
+
 -- Table u's row of the set `all` joins the set `part`. No cell has a say in it.
 unfoldable pub joinsIn : Catalogue → List ℕ → List ℕ → ℕ → Bool
 joinsIn cat all part u = member all u && joins (worldOf cat []) part (rowIn all u)
+
+-- What is asked of a join: table u of the catalogue has this scheme, and the part has these attributes.
+pub record ForJoin (cat : Catalogue) (part scheme attrs u : ℕ) : Type 0 where
+  pub lawful : Lawful cat mostCells
+  pub table : u < cat .n
+  pub own : scheme ≡ schemeOf cat u
+  pub attributes : Attributes cat (at (setOf cat part)) attrs

@@ -7,7 +7,7 @@ ghost use lib.ListN.{length, getD};
 ghost use lib.Bits.{bitAnd, bitOr};
 ghost use lib.Count.{ones};
 ghost use Rattle.words.specs.Words.{bitOf};
-ghost use Rattle.keys.specs.Keys.{bitsPerRow};
+ghost use Rattle.keys.specs.Keys.{bitsPerRow, rowOf};
 ghost use Rattle.tables.specs.Sizes.{mostTables, mostRows, mostCells};
 ghost use Rattle.tables.specs.Catalogues.{firstCell, FirstCells};
 ghost use Rattle.tables.specs.Checks.{Lawful};
@@ -15,8 +15,8 @@ ghost use Rattle.disjunction.specs.Sets.{at};
 ghost use Rattle.disjunction.specs.Rule.{extension, dropped, piece, trial};
 ghost use Rattle.rows.specs.World.{worldOf, setOf, placeOf};
 ghost use Rattle.rows.specs.Named.{Named, There};
-ghost use Rattle.sets.specs.Merged.{mergedLength, Under, Attributes, Merged, matches, joint, Joined, Added, rowIn, only, Places, NextEqual};
-ghost use Rattle.sets.specs.Promises.{FirstIn, tested, TableOf, closes, KeyFor, Comes, parts, joinsIn};
+ghost use Rattle.sets.specs.Merged.{mergedLength, Under, Attributes, Merged, matches, joint, Joined, Added, rowIn, Places, NextEqual};
+ghost use Rattle.sets.specs.Promises.{FirstIn, tested, TableOf, closes, KeyFor, Comes, parts, ForDrop, joinsIn, ForJoin};
 use tables::Catalogue;
 use tables::Row;
 
@@ -278,20 +278,20 @@ pub fn extend(cat: Catalogue, cells: &[u64], firsts: [usize; 8], from: u64) -> G
     Grown { key, tests }
 }
 
-// Whether table u's row of the set has to go: it is another table's than x's, and not consistent with x. Table u's cells begin at `base`.
+// Whether table u's row of the set has to go: it is another table's than x's, and not consistent with x. The table has this scheme, and its cells begin at `base`.
 // The row of x is given as a merged row, and u's row as a table of one row, so that one comparison serves the row test and the drop.
 fn parted(
-    cat: Catalogue,
     cells: &[u64],
     key: u64,
     x: Row,
     u: usize,
+    scheme: u64,
     base: usize,
     attrs: u64,
     merged: &[u64; 64],
 ) -> bool
-    requires { ⌜ Lawful cat (length (now cells)) × Named cat key × (u < cat .n) × (base ≡ firstCell cat u) × Merged cat (now cells) (only (x .table) (x .row)) (now merged) attrs × (0 < x .row) ⌝ }
-    ensures { λ r. ⌜ r ≡ parts (worldOf cat (now (cells .entry))) (setOf cat key) (placeOf x) u ⌝ }
+    requires { ⌜ (u < mostTables) × (0 < rowOf bitsPerRow key u → rowIn base scheme (rowOf bitsPerRow key u - 1) + ones scheme ≤ length (now cells)) ⌝ }
+    ensures { λ r. ⌜ ((cat : Catalogue) → ForDrop cat (now (cells .entry)) key (placeOf x) u scheme base attrs (now (merged .entry)) → r ≡ parts (worldOf cat (now (cells .entry))) (setOf cat key) (placeOf x) u) ⌝ }
 {
     if u == x.table {
         return false;
@@ -300,7 +300,6 @@ fn parted(
     if q == 0 {
         return false;
     }
-    let scheme = cat.schemes[u];
     let common = scheme & attrs;
     if common == 0 {
         return false;
@@ -333,7 +332,7 @@ fn kept(cat: Catalogue, cells: &[u64], firsts: [usize; 8], key: u64, x: Row) -> 
     let mut all = keys::with_row(key, table, row as u64);
     let mut u: usize = 0;
     while u < n {
-        if parted(cat, cells, key, x, u, firsts[u], attrs, &merged) {
+        if parted(cells, key, x, u, cat.schemes[u], firsts[u], attrs, &merged) {
             all = keys::with_row(all, u, 0);
         }
         u += 1;
@@ -341,11 +340,11 @@ fn kept(cat: Catalogue, cells: &[u64], firsts: [usize; 8], key: u64, x: Row) -> 
     all
 }
 
-// Whether table u's row of the set `all` joins the part, which has the attributes `attrs`.
-// Touching alone decides, so no cell is read.
-fn joins(cat: Catalogue, all: u64, part: u64, attrs: u64, u: usize) -> bool
-    requires { ⌜ Lawful cat mostCells × (u < cat .n) × Attributes cat (at (setOf cat part)) attrs ⌝ }
-    ensures { λ r. ⌜ r ≡ joinsIn cat (setOf cat all) (setOf cat part) u ⌝ }
+// Whether table u's row of the set `all` joins the part, which has the attributes `attrs`. The row is of this scheme.
+// Touching alone decides, so no cell is read, and of the catalogue only the scheme.
+fn joins(all: u64, part: u64, scheme: u64, attrs: u64, u: usize) -> bool
+    requires { ⌜ u < mostTables ⌝ }
+    ensures { λ r. ⌜ ((cat : Catalogue) → ForJoin cat part scheme attrs u → r ≡ joinsIn cat (setOf cat all) (setOf cat part) u) ⌝ }
 {
     if keys::row_of(all, u) == 0 {
         return false;
@@ -353,7 +352,7 @@ fn joins(cat: Catalogue, all: u64, part: u64, attrs: u64, u: usize) -> bool
     if keys::row_of(part, u) != 0 {
         return false;
     }
-    let touched = cat.schemes[u] & attrs;
+    let touched = scheme & attrs;
     if touched == 0 {
         return false;
     }
@@ -369,7 +368,7 @@ fn first_joining(cat: Catalogue, all: u64, part: u64, attrs: u64) -> usize
     let n = cat.n;
     let mut u: usize = 0;
     while u < n {
-        if joins(cat, all, part, attrs, u) {
+        if joins(all, part, cat.schemes[u], attrs, u) {
             return u;
         }
         u += 1;
@@ -378,7 +377,7 @@ fn first_joining(cat: Catalogue, all: u64, part: u64, attrs: u64) -> usize
 }
 
 // "Keep the piece that holds s": from x alone, rows of the set that touch what is there are added until there is none.
-// The order in which they come in makes no difference: there is one piece only.
+// The order in which they come in makes no difference, as there is one piece only; and where the part is the whole set, no table is asked any more.
 fn piece_of(cat: Catalogue, all: u64, x: Row) -> u64
     requires { ⌜ Lawful cat mostCells × There cat (x .table) (x .row) × (at (setOf cat all) (x .table) ≡ x .row) ⌝ }
     ensures { λ k. ⌜ ((cells : List ℕ) → KeyFor cat (piece (worldOf cat cells) (setOf cat all) (placeOf x)) k) ⌝ }
@@ -389,6 +388,9 @@ fn piece_of(cat: Catalogue, all: u64, x: Row) -> u64
     let mut part = keys::with_row(0, table, row as u64);
     let mut attrs = cat.schemes[table];
     loop {
+        if part == all {
+            return part;
+        }
         let u = first_joining(cat, all, part, attrs);
         if u == n {
             return part;

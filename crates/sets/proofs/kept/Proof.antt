@@ -2,13 +2,14 @@
 use borrow.Author.Needs.{needs}
 use native.Mathlib.Omega.{arith}
 use Prim.Native.Nat.{_-_}
-use mathlib.Core.Path.{refl, _∙_}
+use mathlib.Core.Path.{_≡_, refl, _∙_}
 use mathlib.Core.Logic.{⊎-elim}
-use Rattle.rows.specs.World.{placeOf}
+use Rattle.rows.specs.World.{worldOf, setOf, placeOf}
 use Rattle.rows.proofs.WorldLaws.{row-room}
 use Rattle.rows.proofs.NamedLaws.{row-small}
+use Rattle.sets.specs.Promises.{parts}
 use Rattle.sets.proofs.RowTestLaws.{start-of}
-use Rattle.sets.proofs.Dropping.{merged-one, Keeping, keep-start, keep-stay, keep-gone, keep-end}
+use Rattle.sets.proofs.Dropping.{merged-one, member-room, Keeping, keep-start, keep-stay, keep-gone, keep-end}
 use Rattle.sets.proofs.kept.Statement.{statement}
 use Rattle.sets.proofs.kept.Tie as tie
 
@@ -48,21 +49,44 @@ loop-holds c =
 mul-parted : tie.Need-mul-parted Inv-loop μ-loop
 mul-parted c = search needs
 
+element-copy-out-parted : tie.Need-element-copy-out-parted Inv-loop μ-loop
+element-copy-out-parted c = search needs
+
+mul-parted-2 : tie.Need-mul-parted-2 Inv-loop μ-loop
+mul-parted-2 c = search needs
+
 array-read-parted : tie.Need-array-read-parted Inv-loop μ-loop
 array-read-parted c = search needs
 
 parted-requires : tie.Need-parted-requires Inv-loop μ-loop
 parted-requires c κs =
-    let b = c .before .loop-test .taken in
-    let m = c .before .before .before .before in
-    let s = m .before .before .before .before in (
-      s .pre .0,
-      s .pre .2,
-      b,
-      s .pre .1 .each _ b,
-      merged-one _ _ _ (s .pre .0) _ _ _ _ _ _ (s .pre .3) (s .pre .1 .each _ (s .pre .3 .table)) refl (m .merge-add .ensures),
-      s .pre .3 .low,
-    )
+    let b = c .before .before .loop-test .taken in
+    let s = c .before .before .before .before .before .before .before .before .before in
+    (omega (arith, b, s .pre .0 .tables), member-room _ _ (s .pre .0) _ _ _ (s .pre .2) b (s .pre .1 .each _ b))
+
+-- what the comparison answers of the table
+abbrev start : tie.After-parted Inv-loop μ-loop → tie.Start Inv-loop μ-loop
+start c = c .before .before .before .before .before .before .before .before .before .before
+
+answer : (c : tie.After-parted Inv-loop μ-loop)
+    → c .parted .result
+    ≡ parts (worldOf (start c .args .t1) (start c .args .cells .now)) (setOf (start c .args .t1) (start c .args .key)) (placeOf (start c .args .x))
+    (c .before .before .before .before .loop .u)
+answer c =
+    let t = c .before .before .before in
+    let m = t .before .before .before in
+    let s = start c in
+    let b = t .loop-test .taken in
+    c .parted .ensures (s .args .t1)
+    (record {
+      lawful = s .pre .0;
+      named = s .pre .2;
+      table = b;
+      own = refl;
+      begins = s .pre .1 .each _ b;
+      row = s .pre .3 .low;
+      merged = merged-one _ _ _ (s .pre .0) _ _ _ _ _ _ (s .pre .3) (s .pre .1 .each _ (s .pre .3 .table)) refl (m .merge-add .ensures);
+    })
 
 with-row-requires-2 : tie.Need-with-row-requires-2 Inv-loop μ-loop
 with-row-requires-2 c κs = search needs
@@ -76,12 +100,12 @@ loop-less c = search needs
 loop-again : tie.Need-loop-again Inv-loop μ-loop
 loop-again c =
     let p = c .before in
-    let b = p .before .before .loop-test .taken in
-    let l = p .before .before .before in
-    let s = l .before .before .before .before .before .before in
+    let b = p .before .before .before .loop-test .taken in
+    let l = p .before .before .before .before in
+    let s = start p in
     ⊎-elim
-    (λ w. keep-gone _ _ _ _ (s .pre .3 .table) _ _ (l .loop .inv) b _ (p .parted .ensures) (w .0 .taken) _ (w .2 ∙ w .1 .ensures))
-    (λ w. rw (w .1) (keep-stay _ _ _ _ (s .pre .3 .table) _ _ (l .loop .inv) b _ (p .parted .ensures) (w .0 .left)))
+    (λ w. keep-gone _ _ _ _ (s .pre .3 .table) _ _ (l .loop .inv) b _ (answer p) (w .0 .taken) _ (w .2 ∙ w .1 .ensures))
+    (λ w. rw (w .1) (keep-stay _ _ _ _ (s .pre .3 .table) _ _ (l .loop .inv) b _ (answer p) (w .0 .left)))
     (c .if1 .came)
 
 returns : tie.Need-returns Inv-loop μ-loop
@@ -104,6 +128,8 @@ kept-spec =
     with-row-requires
     loop-holds
     mul-parted
+    element-copy-out-parted
+    mul-parted-2
     array-read-parted
     parted-requires
     with-row-requires-2
