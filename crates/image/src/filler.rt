@@ -3,7 +3,7 @@ ghost use mathlib.Core.Path.{_≡_};
 ghost use Prim.Native.Nat.{_≤_};
 ghost use lib.ListN.{length};
 ghost use Rattle.laws.specs.Lists.{put};
-ghost use Rattle.image.specs.Reading.{runEnd, codes};
+ghost use Rattle.image.specs.Reading.{codes};
 ghost use Rattle.image.specs.Load.{firstTable, tablesCodes, Fillable, Copied};
 use super::Walk;
 use numbers::Reading;

@@ -1,6 +1,5 @@
 // The image of up to eight tables: loaded into lent cells and written into lent bytes.
 // Each is done in two passes. The first decides and touches nothing; the second fills.
-ghost use mathlib.Core.Path.{_≡_};
 ghost use Rattle.image.specs.Load.{Loads};
 ghost use Rattle.image.specs.Write.{Writes};
 use tables::Catalogue;

@@ -2,14 +2,13 @@
 ghost use mathlib.Core.Path.{_≡_};
 ghost use mathlib.Core.Bool.{true};
 ghost use mathlib.Core.List.{List};
-ghost use Prim.Native.Nat.{ℕ, _+_, _-_, _*_, _^_, _≤_, _<_};
+ghost use Prim.Native.Nat.{ℕ, _+_, _-_, _*_, _≤_, _<_};
 ghost use lib.ListN.{length, getD};
-ghost use lib.Bits.{bitAnd, bitOr};
 ghost use lib.Count.{ones};
 ghost use Rattle.words.specs.Words.{bitOf};
 ghost use Rattle.keys.specs.Keys.{bitsPerRow, rowOf};
-ghost use Rattle.tables.specs.Sizes.{mostTables, mostRows, mostCells};
-ghost use Rattle.tables.specs.Catalogues.{firstCell, FirstCells};
+ghost use Rattle.tables.specs.Sizes.{mostTables, mostCells};
+ghost use Rattle.tables.specs.Catalogues.{FirstCells};
 ghost use Rattle.tables.specs.Checks.{Lawful};
 ghost use Rattle.disjunction.specs.Sets.{at};
 ghost use Rattle.disjunction.specs.Rule.{extension, dropped, piece, trial};
