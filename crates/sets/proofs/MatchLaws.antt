@@ -13,11 +13,11 @@ use lib.Pow.{pow-pos}
 use borrow.Author.Tests.{not-true}
 use Rattle.laws.proofs.TestLaws.{which, clash, not-yes, iff-eq, or-case, or-left, or-right, all-each, all-of}
 use Rattle.words.specs.Words.{bitOf, LowestBit}
-use Rattle.words.proofs.WordLaws.{zero-bit, less-bit, bit-gone, bit-kept}
+use Rattle.words.proofs.WordLaws.{zero-bit, bit-lt, less-bit, bit-gone, bit-kept}
 use Rattle.tables.specs.Catalogues.{codeAt}
 use Rattle.disjunction.specs.Cells.{same}
 use Rattle.disjunction.proofs.CellLaws.{same-iff}
-use Rattle.sets.specs.Merged.{mergedLength, Same, Under, matches, joint, Joined}
+use Rattle.sets.specs.Merged.{mergedLength, Same, Under, Values, matches, joint, Joined}
 
 -- ---- a bit taken from a mask
 
@@ -41,6 +41,14 @@ module _ (rest a : ℕ) (l : LowestBit mergedLength rest a) where
       go : Dec (d ≡ a) → (d ≡ a) ⊎ (bitOf rest d ≡ false)
       go (yes q) = inl q
       go (no g) = inr (sym (bit-kept rest a (l .itself) d g) ∙ e)
+
+  -- So a bit of the mask is the one taken or is left.
+  pub bit-left : (d : ℕ) → bitOf rest d ≡ true → (d ≡ a) ⊎ (bitOf (rest - 2 ^ a) d ≡ true)
+  bit-left d e = ⊎-elim (λ f. inr f) (λ f. ⊎-elim (λ q. inl q) (λ n. absurd (clash e n)) (bit-taken d f)) (which (bitOf (rest - 2 ^ a) d))
+
+  -- Where the merged row has a value at the bit taken, what is left decides whether it has one everywhere.
+  pub values-more : (codes : List ℕ) → getD codes a 0 ≢ 0 → Values (rest - 2 ^ a) codes → Values rest codes
+  values-more codes p v d e = ⊎-elim (λ (q : d ≡ a). rw q (omega (arith, p))) (λ f. v d f) (bit-left d e)
 
 -- ---- matching
 
@@ -68,6 +76,11 @@ module _ (cells : List ℕ) (scheme start : ℕ) (codes : List ℕ) where
       go h a l (inl e) = or-right (not (bitOf shared a)) (same-iff (getD codes a 0) (codeAt cells scheme start a) .1 (h a l e))
       go h a l (inr e) = or-left (same (getD codes a 0) (codeAt cells scheme start a)) (ap not e)
 
+  -- Where the merged row does not have a value at every attribute of the mask, the row does not match.
+  pub matches-null : (shared : ℕ) → shared < 2 ^ mergedLength → (Values shared codes → ⊥) → matches cells scheme start shared codes ≡ false
+  matches-null shared n g =
+      not-yes (matches cells scheme start shared codes) (λ h. g (λ a e. matches-iff shared .0 h a (bit-lt shared mergedLength a n e) e .0))
+
   -- The way of the code: no bit is left, the next one matches, it does not.
   pub matches-none : matches cells scheme start 0 codes ≡ true
   matches-none = matches-iff 0 .1 (λ a l b. absurd (clash b (zero-bit a)))
@@ -77,10 +90,7 @@ module _ (cells : List ℕ) (scheme start : ℕ) (codes : List ℕ) where
     matches-more s =
         iff-eq (matches cells scheme start rest codes) (matches cells scheme start (rest - 2 ^ a) codes)
         (λ h. matches-iff (rest - 2 ^ a) .1 (λ d b e. matches-iff rest .0 h d b (under-less rest a l rest (λ x y. y) d e)))
-        (λ h. matches-iff rest .1 (λ d b e. ⊎-elim (λ (q : d ≡ a). rw q s) (λ f. matches-iff (rest - 2 ^ a) .0 h d b f) (left d e)))
-      where
-        left : (d : ℕ) → bitOf rest d ≡ true → (d ≡ a) ⊎ (bitOf (rest - 2 ^ a) d ≡ true)
-        left d e = ⊎-elim (λ f. inr f) (λ f. ⊎-elim (λ q. inl q) (λ n. absurd (clash e n)) (bit-taken rest a l d f)) (which (bitOf (rest - 2 ^ a) d))
+        (λ h. matches-iff rest .1 (λ d b e. ⊎-elim (λ (q : d ≡ a). rw q s) (λ f. matches-iff (rest - 2 ^ a) .0 h d b f) (bit-left rest a l d e)))
 
     pub matches-bad : (Matches a → ⊥) → matches cells scheme start rest codes ≡ false
     matches-bad g = not-yes (matches cells scheme start rest codes) (λ h. g (matches-iff rest .0 h a (l .narrow) (l .itself)))

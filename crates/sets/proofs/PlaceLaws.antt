@@ -73,10 +73,6 @@ module _ (cells : List ℕ) (scheme base shared : ℕ) (codes : List ℕ) (a : �
   abbrev pub rowFits : ℕ → Bool
   rowFits j = matches cells scheme (rowIn base scheme j) shared codes
 
-  -- Where the merged code is 0, no row has them.
-  pub row-null : getD codes a 0 ≡ 0 → (j : ℕ) → rowFits j ≡ false
-  row-null z j = matches-bad cells scheme (rowIn base scheme j) codes shared a l (λ s. omega (arith, z, s .0))
-
   module _ (first w : ℕ) (e : first ≡ base + ones (scheme % 2 ^ a)) (f : w ≡ ones scheme) where
     cell : (j : ℕ) → getD cells (first + j * w) 0 ≡ codeAt cells scheme (rowIn base scheme j) a
     cell j = rw (e, f) (ap (λ (x : ℕ). getD cells x 0) (omega arith))
@@ -92,6 +88,6 @@ module _ (cells : List ℕ) (scheme base shared : ℕ) (codes : List ℕ) (a : �
             matches-bad cells scheme (rowIn base scheme j) codes shared a l (λ s. n .before j b (omega arith) (cell j ∙ sym (s .1)))
 
     -- and of that row the other shared attributes decide.
-    pub row-rest : (getD codes a 0 ≡ 0 → ⊥) → (j : ℕ) → getD cells (first + j * w) 0 ≡ getD codes a 0
+    pub row-rest : 0 < getD codes a 0 → (j : ℕ) → getD cells (first + j * w) 0 ≡ getD codes a 0
         → rowFits j ≡ matches cells scheme (rowIn base scheme j) (shared - 2 ^ a) codes
-    row-rest p j q = matches-more cells scheme (rowIn base scheme j) codes shared a l (omega (arith, p), sym q ∙ cell j)
+    row-rest p j q = matches-more cells scheme (rowIn base scheme j) codes shared a l (p, sym q ∙ cell j)

@@ -27,6 +27,10 @@ Same x v = (0 < x) × (x ≡ v)
 abbrev pub Under : ℕ → ℕ → Type 0
 Under part whole = (a : ℕ) → bitOf part a ≡ true → bitOf whole a ≡ true
 
+-- The merged row has a value at every attribute of the mask.
+abbrev pub Values : ℕ → List ℕ → Type 0
+Values mask codes = (a : ℕ) → bitOf mask a ≡ true → 0 < getD codes a 0
+
 -- `mask` has the attributes of the members, and no other.
 pub record Attributes (cat : Catalogue) (f : ℕ → ℕ) (mask : ℕ) : Type 0 where
   pub narrow : mask < 2 ^ (cat .m)

@@ -1,5 +1,6 @@
 // Row sets as keys: the row test by the set's merged row, the extension, and the set that a trial comes to.
 ghost use mathlib.Core.Path.{_≡_};
+ghost use mathlib.Core.Logic.{_↔_};
 ghost use mathlib.Core.Bool.{true};
 ghost use mathlib.Core.List.{List};
 ghost use Prim.Native.Nat.{ℕ, _+_, _-_, _*_, _≤_, _<_};
@@ -14,7 +15,7 @@ ghost use Rattle.disjunction.specs.Sets.{at};
 ghost use Rattle.disjunction.specs.Rule.{extension, dropped, piece, trial};
 ghost use Rattle.rows.specs.World.{worldOf, setOf, placeOf};
 ghost use Rattle.rows.specs.Named.{Named, There};
-ghost use Rattle.sets.specs.Merged.{mergedLength, Under, Attributes, Merged, matches, joint, Joined, Added, rowIn, Places, NextEqual};
+ghost use Rattle.sets.specs.Merged.{mergedLength, Under, Values, Attributes, Merged, matches, joint, Joined, Added, rowIn, Places, NextEqual};
 ghost use Rattle.sets.specs.Promises.{FirstIn, tested, TableOf, closes, KeyFor, Comes, parts, ForDrop, joinsIn, ForJoin};
 use tables::Catalogue;
 use tables::Row;
@@ -58,7 +59,23 @@ fn places_of(scheme: u64, shared: u64) -> [u8; 64]
     places
 }
 
-// Whether the row at `start`, whose cells lie at these places, has the merged codes at the shared attributes.
+// Whether the merged row has a value at every attribute of the mask.
+// Where it has none no row matches, and where it has one everywhere a row is compared without asking for nulls.
+fn valued(mask: u64, merged: &[u64; 64]) -> bool
+    ensures { λ r. ⌜ (r ≡ true) ↔ Values mask (now (merged .entry)) ⌝ }
+{
+    let mut rest = mask;
+    while rest != 0 {
+        let a = words::lowest(rest);
+        if merged[a] == 0 {
+            return false;
+        }
+        rest = words::without_lowest(rest);
+    }
+    true
+}
+
+// Whether the row at `start`, whose cells lie at these places, has the merged codes at the shared attributes, each of them a value.
 // Only the set bits of the mask are gone through, each with one read of the row and one of the merged row.
 fn fits_placed(
     cells: &[u64],
@@ -67,17 +84,13 @@ fn fits_placed(
     places: &[u8; 64],
     merged: &[u64; 64],
 ) -> bool
-    requires { ⌜ ((a : ℕ) → bitOf shared a ≡ true → start + getD (now places) a 0 < length (now cells)) ⌝ }
+    requires { ⌜ ((a : ℕ) → bitOf shared a ≡ true → start + getD (now places) a 0 < length (now cells)) × Values shared (now merged) ⌝ }
     ensures { λ r. ⌜ ((scheme : ℕ) → Places scheme shared (now (places .entry)) → r ≡ matches (now (cells .entry)) scheme start shared (now (merged .entry))) ⌝ }
 {
     let mut rest = shared;
     while rest != 0 {
         let a = words::lowest(rest);
-        let code = cells[start + places[a] as usize];
-        if code == 0 {
-            return false;
-        }
-        if merged[a] != code {
+        if merged[a] != cells[start + places[a] as usize] {
             return false;
         }
         rest = words::without_lowest(rest);
@@ -162,7 +175,7 @@ fn merge_set(
 }
 
 // The first of a table's rows, from 0, that has the merged codes at the shared attributes, at least one; their number where none has.
-// Only a row with the code of the lowest of them is looked at further, and where that code is 0 no row is.
+// Only a row with the code of the lowest of them is looked at further, and where one of the codes is 0 no row is.
 fn first_fit(
     cells: &[u64],
     scheme: u64,
@@ -176,7 +189,7 @@ fn first_fit(
 {
     let a = words::lowest(shared);
     let wanted = merged[a];
-    if wanted == 0 {
+    if !valued(shared, merged) {
         return count;
     }
     let w = tables::width(scheme);

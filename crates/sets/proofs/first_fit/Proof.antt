@@ -7,11 +7,13 @@ use mathlib.Core.Bool.{Bool}
 use lib.ListN.{length, getD}
 use lib.Count.{ones, ones-le}
 use borrow.Author.Count.{below-more}
+use borrow.Author.Tests.{not-true, not-false}
+use Rattle.laws.proofs.TestLaws.{clash}
 use Rattle.rows.proofs.WorldLaws.{code-inside}
-use Rattle.sets.specs.Merged.{mergedLength, matches, rowIn}
-use Rattle.sets.proofs.MatchLaws.{under-less}
+use Rattle.sets.specs.Merged.{mergedLength, Values, matches, rowIn}
+use Rattle.sets.proofs.MatchLaws.{under-less, matches-null}
 use Rattle.sets.proofs.RowTestLaws.{first-none, start-inside}
-use Rattle.sets.proofs.PlaceLaws.{Walked, walk-next, walk-end, row-null, row-rest}
+use Rattle.sets.proofs.PlaceLaws.{Walked, walk-next, walk-end, row-rest}
 use Rattle.sets.proofs.first_fit.Statement.{statement}
 use Rattle.sets.proofs.first_fit.Tie as tie
 
@@ -26,14 +28,18 @@ abbrev μ-loop : tie.MeasureT-loop
 abbrev fits : tie.Start Inv-loop μ-loop → ℕ → Bool
 fits s j = matches (s .args .cells .now) (s .args .scheme) (rowIn (s .args .base) (s .args .scheme) j) (s .args .shared) (s .args .merged .now)
 
+-- every shared attribute has a value where the walk begins
+values : (c : tie.Else1 Inv-loop μ-loop) → Values (c .before .before .before .before .before .args .shared) (c .before .before .before .before .before .args .merged .now)
+values c = c .before .valued .ensures .0 (not-false _ (c .if1 .left))
+
 -- the first cells of all rows are there
 abbrev Room : tie.Start Inv-loop μ-loop → ℕ → ℕ → Type 0
 Room s first w = (w ≤ mergedLength) × (first + s .args .count * w < length (s .args .cells .now) + w)
 
 room : (c : tie.After-rank Inv-loop μ-loop)
-    → Room (c .before .before .before .before .before .before) (c .before .before .before .before .before .before .args .base + c .rank .result) (c .before .width .result)
+    → Room (c .before .before .before .before .before .before .before) (c .before .before .before .before .before .before .before .args .base + c .rank .result) (c .before .width .result)
 room c =
-    let l = c .before .before .before .before in
+    let l = c .before .before .before .before .before in
     let s = l .before .before in
     rw (c .before .width .ensures, c .rank .ensures) (
       ones-le mergedLength _ (s .fits .scheme .fits),
@@ -47,14 +53,14 @@ room c =
 
 -- the walk comes to the first row that has the first code
 begun : (c : tie.After-next-equal Inv-loop μ-loop)
-    → Walked (c .before .before .before .before .before .before .before .args .cells .now)
-    (c .before .before .before .before .before .before .before .args .base + c .before .rank .result) (c .before .before .width .result)
-    (c .before .before .before .before .before .before .before .args .count)
-    (getD (c .before .before .before .before .before .before .before .args .merged .now) (c .before .before .before .before .before .lowest .result) 0)
-    (fits (c .before .before .before .before .before .before .before)) (c .next-equal .result)
+    → Walked (c .before .before .before .before .before .before .before .before .args .cells .now)
+    (c .before .before .before .before .before .before .before .before .args .base + c .before .rank .result) (c .before .before .width .result)
+    (c .before .before .before .before .before .before .before .before .args .count)
+    (getD (c .before .before .before .before .before .before .before .before .args .merged .now) (c .before .before .before .before .before .before .lowest .result) 0)
+    (fits (c .before .before .before .before .before .before .before .before)) (c .next-equal .result)
 begun c =
     let k = c .before in
-    let l = k .before .before .before .before in
+    let l = k .before .before .before .before .before in
     let s = l .before .before in
     walk-next (s .args .cells .now) (s .args .scheme) (s .args .base) _ (s .args .merged .now) _ (l .lowest .ensures) _ _
     (ap (λ (x : ℕ). s .args .base + x) (k .rank .ensures)) (k .before .width .ensures) _ 0 _ (λ j b. absurd (omega arith)) (c .next-equal .ensures)
@@ -68,11 +74,16 @@ mul-wanted c = search needs
 element-copy-out-wanted : tie.Need-element-copy-out-wanted Inv-loop μ-loop
 element-copy-out-wanted c = search needs
 
+valued-requires : tie.Need-valued-requires Inv-loop μ-loop
+valued-requires c κs = search needs
+
 returns : tie.Need-returns Inv-loop μ-loop
 returns c =
-    let l = c .before .before in
-    let s = l .before .before in
-    first-none _ _ (row-null (s .args .cells .now) (s .args .scheme) (s .args .base) _ (s .args .merged .now) _ (l .lowest .ensures) (c .if1 .taken))
+    let v = c .before in
+    let s = v .before .before .before .before in
+    first-none _ _
+    (λ j. matches-null (s .args .cells .now) (s .args .scheme) (rowIn (s .args .base) (s .args .scheme) j) (s .args .merged .now) (s .args .shared) (s .fits .shared .fits)
+    (λ w. clash (v .valued .ensures .1 w) (not-true _ (c .if1 .taken))))
 
 width-requires : tie.Need-width-requires Inv-loop μ-loop
 width-requires c κs = search needs
@@ -90,7 +101,7 @@ returns-2 : tie.Need-returns-2 Inv-loop μ-loop
 returns-2 c = walk-end _ _ _ _ _ _ _ (begun (c .before)) (c .if2 .taken)
 
 without-lowest-requires : tie.Need-without-lowest-requires Inv-loop μ-loop
-without-lowest-requires c κs = c .before .before .before .before .before .before .before .before .pre .2
+without-lowest-requires c κs = c .before .before .before .before .before .before .before .before .before .pre .2
 
 places-of-requires : tie.Need-places-of-requires Inv-loop μ-loop
 places-of-requires c κs = search needs
@@ -103,25 +114,25 @@ abbrev Inside : tie.Start Inv-loop μ-loop → ℕ → ℕ → Type 0
 Inside s i w = (s .args .base + i * w) + ones (s .args .scheme) ≤ length (s .args .cells .now)
 
 inside : (c : tie.In-loop Inv-loop μ-loop)
-    → Inside (c .before .before .before .before .before .before .before .before .before .before .before .before) (c .before .loop .i)
+    → Inside (c .before .before .before .before .before .before .before .before .before .before .before .before .before) (c .before .loop .i)
     (c .before .before .before .before .before .before .before .width .result)
 inside c =
     let w = c .before .before .before .before .before .before .before in
-    let s = w .before .before .before .before .before in
+    let s = w .before .before .before .before .before .before in
     rw (w .width .ensures) (start-inside (s .args .base) (ones (s .args .scheme)) _ _ _ (c .loop-test .taken) (s .pre .0))
 
 -- and what the comparison says of it is whether it has the merged codes
 answer : (c : tie.After-fits-placed Inv-loop μ-loop)
-    → fits (c .before .before .before .before .before .before .before .before .before .before .before .before .before .before) (c .before .before .before .loop .i)
+    → fits (c .before .before .before .before .before .before .before .before .before .before .before .before .before .before .before) (c .before .before .before .loop .i)
     ≡ c .fits-placed .result
 answer c =
     let o = c .before .before .before in
     let p = o .before in
     let k = p .before .before .before .before in
-    let l = k .before .before .before .before in
+    let l = k .before .before .before .before .before in
     let s = l .before .before in
     row-rest (s .args .cells .now) (s .args .scheme) (s .args .base) _ (s .args .merged .now) _ (l .lowest .ensures) _ _
-    (ap (λ (x : ℕ). s .args .base + x) (k .rank .ensures)) (k .before .width .ensures) (k .before .before .if1 .left) _ (o .loop .inv .code (c .before .before .loop-test .taken))
+    (ap (λ (x : ℕ). s .args .base + x) (k .rank .ensures)) (k .before .width .ensures) (values (k .before .before) _ (l .lowest .ensures .itself)) _ (o .loop .inv .code (c .before .before .loop-test .taken))
     ∙ sym (rw (k .before .width .ensures, p .before .without-lowest .ensures _ (l .lowest .ensures)) at (c .fits-placed .ensures _ (p .places-of .ensures)))
 
 mul-fits-placed : tie.Need-mul-fits-placed Inv-loop μ-loop
@@ -131,13 +142,18 @@ add-fits-placed : tie.Need-add-fits-placed Inv-loop μ-loop
 add-fits-placed c = omega (arith, inside c)
 
 fits-placed-requires : tie.Need-fits-placed-requires Inv-loop μ-loop
-fits-placed-requires c κs d b =
+fits-placed-requires c κs =
     let p = c .before .before .before in
-    let l = p .before .before .before .before .before .before .before .before in
-    let s = l .before .before in
-    rw (p .places-of .ensures .each d b)
-    (code-inside (s .args .scheme) _ _ d (inside (c .before))
-    (under-less _ _ (l .lowest .ensures) _ (s .pre .1) d (rw (p .before .without-lowest .ensures _ (l .lowest .ensures)) at b)))
+    let l = p .before .before .before .before .before .before .before .before .before in
+    let s = l .before .before in (
+      λ d b.
+          rw (p .places-of .ensures .each d b)
+          (code-inside (s .args .scheme) _ _ d (inside (c .before))
+          (under-less _ _ (l .lowest .ensures) _ (s .pre .1) d (rw (p .before .without-lowest .ensures _ (l .lowest .ensures)) at b))),
+      λ d b.
+          values (p .before .before .before .before .before .before) d
+          (under-less _ _ (l .lowest .ensures) _ (λ x y. y) d (rw (p .before .without-lowest .ensures _ (l .lowest .ensures)) at b)),
+    )
 
 returns-3 : tie.Need-returns-3 Inv-loop μ-loop
 returns-3 c =
@@ -159,7 +175,7 @@ loop-again : tie.Need-loop-again Inv-loop μ-loop
 loop-again c =
     let o = c .before .before .before .before .before in
     let k = o .before .before .before .before .before in
-    let l = k .before .before .before .before in
+    let l = k .before .before .before .before .before in
     let s = l .before .before in
     walk-next (s .args .cells .now) (s .args .scheme) (s .args .base) _ (s .args .merged .now) _ (l .lowest .ensures) _ _
     (ap (λ (x : ℕ). s .args .base + x) (k .rank .ensures)) (k .before .width .ensures) _ _ _
@@ -177,6 +193,7 @@ first-fit-spec =
     lowest-requires
     mul-wanted
     element-copy-out-wanted
+    valued-requires
     returns
     width-requires
     rank-requires

@@ -23,7 +23,7 @@ abbrev μ-loop : tie.MeasureT-loop
 inside : (c : tie.After-lowest Inv-loop μ-loop)
     → c .before .before .before .before .args .start + getD (c .before .before .before .before .args .places .now) (c .lowest .result) 0
     < length (c .before .before .before .before .args .cells .now)
-inside c = c .before .before .before .before .pre _ (c .before .before .loop .inv .1 _ (c .lowest .ensures .itself))
+inside c = c .before .before .before .before .pre .0 _ (c .before .before .loop .inv .1 _ (c .lowest .ensures .itself))
 
 -- and what is read from it is the row's code
 own : (c : tie.After-lowest Inv-loop μ-loop) (scheme : ℕ)
@@ -41,58 +41,53 @@ loop-holds c = (λ scheme p. refl, λ a b. b)
 lowest-requires : tie.Need-lowest-requires Inv-loop μ-loop
 lowest-requires c κs = search needs
 
-element-copy-out-code : tie.Need-element-copy-out-code Inv-loop μ-loop
-element-copy-out-code c = search needs
+mul-if1 : tie.Need-mul-if1 Inv-loop μ-loop
+mul-if1 c = search needs
 
-cast-code : tie.Need-cast-code Inv-loop μ-loop
-cast-code c = omega (arith, inside (c .before))
+element-copy-out-if1 : tie.Need-element-copy-out-if1 Inv-loop μ-loop
+element-copy-out-if1 c = search needs
 
-add-code : tie.Need-add-code Inv-loop μ-loop
-add-code c = omega (arith, inside (c .before))
+element-copy-out-if1-2 : tie.Need-element-copy-out-if1-2 Inv-loop μ-loop
+element-copy-out-if1-2 c = search needs
 
-mul-code : tie.Need-mul-code Inv-loop μ-loop
-mul-code c = omega (arith, inside (c .before))
+cast-if1 : tie.Need-cast-if1 Inv-loop μ-loop
+cast-if1 c = omega (arith, inside (c .before .before))
 
-shared-slice-read-code : tie.Need-shared-slice-read-code Inv-loop μ-loop
-shared-slice-read-code c = inside (c .before .before)
+add-if1 : tie.Need-add-if1 Inv-loop μ-loop
+add-if1 c = omega (arith, inside (c .before .before))
+
+mul-if1-2 : tie.Need-mul-if1-2 Inv-loop μ-loop
+mul-if1-2 c = omega (arith, inside (c .before .before))
+
+shared-slice-read-if1 : tie.Need-shared-slice-read-if1 Inv-loop μ-loop
+shared-slice-read-if1 c = inside (c .before .before .before)
 
 returns : tie.Need-returns Inv-loop μ-loop
 returns c scheme p =
-    let l = c .before .before .before in
-    sym (l .before .before .loop .inv .0 scheme p ∙ matches-bad _ _ _ _ _ _ (l .lowest .ensures) (λ s. omega (arith, s .0, s .1, sym (c .if1 .taken) ∙ own l scheme p)))
-
-mul-if2 : tie.Need-mul-if2 Inv-loop μ-loop
-mul-if2 c = search needs
-
-element-copy-out-if2 : tie.Need-element-copy-out-if2 Inv-loop μ-loop
-element-copy-out-if2 c = search needs
-
-returns-2 : tie.Need-returns-2 Inv-loop μ-loop
-returns-2 c scheme p =
-    let l = c .before .before .before .before .before in
-    sym (l .before .before .loop .inv .0 scheme p ∙ matches-bad _ _ _ _ _ _ (l .lowest .ensures) (λ s. c .if2 .taken (s .1 ∙ sym (own l scheme p))))
+    let l = c .before .before .before .before in
+    sym (l .before .before .loop .inv .0 scheme p ∙ matches-bad _ _ _ _ _ _ (l .lowest .ensures) (λ s. c .if1 .taken (s .1 ∙ sym (own l scheme p))))
 
 without-lowest-requires : tie.Need-without-lowest-requires Inv-loop μ-loop
 without-lowest-requires c κs = search needs
 
 loop-less : tie.Need-loop-less Inv-loop μ-loop
 loop-less c =
-    let l = c .before .before .before .before .before .before in
+    let l = c .before .before .before .before .before in
     rw (c .without-lowest .ensures _ (l .lowest .ensures)) (bit-fewer _ _ (l .lowest .ensures))
 
 loop-again : tie.Need-loop-again Inv-loop μ-loop
 loop-again c =
-    let l = c .before .before .before .before .before .before in
+    let l = c .before .before .before .before .before in
     let v = l .before .before .loop .inv in
-    let e = c .before .if2 .left in
     rw (c .without-lowest .ensures _ (l .lowest .ensures)) (
       λ scheme p.
-          v .0 scheme p ∙ matches-more _ _ _ _ _ _ (l .lowest .ensures) (omega (arith, e, c .before .before .before .if1 .left), e ∙ own l scheme p),
+          v .0 scheme p ∙ matches-more _ _ _ _ _ _ (l .lowest .ensures)
+          (l .before .before .before .before .pre .1 _ (v .1 _ (l .lowest .ensures .itself)), c .before .if1 .left ∙ own l scheme p),
       under-less _ _ (l .lowest .ensures) _ (v .1),
     )
 
-returns-3 : tie.Need-returns-3 Inv-loop μ-loop
-returns-3 c scheme p = sym (c .before .loop .inv .0 scheme p ∙ rw (c .loop-test .left) (matches-none _ _ _ _))
+returns-2 : tie.Need-returns-2 Inv-loop μ-loop
+returns-2 c scheme p = sym (c .before .loop .inv .0 scheme p ∙ rw (c .loop-test .left) (matches-none _ _ _ _))
 
 pub fits-placed-spec : {M : Type 1} → statement M
 fits-placed-spec =
@@ -102,16 +97,15 @@ fits-placed-spec =
     μ-loop
     loop-holds
     lowest-requires
-    element-copy-out-code
-    cast-code
-    add-code
-    mul-code
-    shared-slice-read-code
+    mul-if1
+    element-copy-out-if1
+    element-copy-out-if1-2
+    cast-if1
+    add-if1
+    mul-if1-2
+    shared-slice-read-if1
     returns
-    mul-if2
-    element-copy-out-if2
-    returns-2
     without-lowest-requires
     loop-less
     loop-again
-    returns-3)
+    returns-2)
