@@ -9,11 +9,10 @@ use native.Mathlib.Omega.{arith}
 use native.Mathlib.Decide.{ℕ-discrete}
 use lib.ListN.{length, getD, set, length-set}
 use lib.Seq.{getD-set-same, getD-set-other}
-use lib.Pow.{pow-pos}
 use borrow.Author.Tests.{not-true}
 use Rattle.laws.proofs.TestLaws.{which, clash, not-yes, iff-eq, or-case, or-left, or-right, all-each, all-of}
 use Rattle.words.specs.Words.{bitOf, LowestBit}
-use Rattle.words.proofs.WordLaws.{zero-bit, bit-lt, less-bit, bit-gone, bit-kept}
+use Rattle.words.proofs.WordLaws.{zero-bit, bit-lt, less-lt, bit-gone, bit-kept}
 use Rattle.tables.specs.Catalogues.{codeAt}
 use Rattle.disjunction.specs.Cells.{same}
 use Rattle.disjunction.proofs.CellLaws.{same-iff}
@@ -24,7 +23,7 @@ use Rattle.sets.specs.Merged.{mergedLength, Same, Under, Values, matches
 module _ (rest a : ℕ) (l : LowestBit mergedLength rest a) where
   -- What is left is smaller,
   pub bit-fewer : rest - 2 ^ a < rest
-  bit-fewer = omega (arith, less-bit rest a (l .itself) .0, pow-pos a)
+  bit-fewer = less-lt rest a (l .itself)
 
   -- lies under what the mask lay under,
   pub under-less : (whole : ℕ) → Under rest whole → Under (rest - 2 ^ a) whole
