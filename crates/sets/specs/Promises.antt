@@ -11,7 +11,7 @@ use Rattle.words.specs.Words.{bitOf}
 use Rattle.keys.specs.Keys.{bitsPerRow, keyOf}
 use Rattle.tables.specs.declared.Catalogue.{Catalogue}
 use Rattle.tables.specs.Sizes.{mostCells}
-use Rattle.tables.specs.Catalogues.{schemeOf, countOf, firstCell}
+use Rattle.tables.specs.Catalogues.{schemeOf, firstCell}
 use Rattle.tables.specs.Checks.{Lawful}
 use Rattle.disjunction.specs.Sets.{Tables, at}
 use Rattle.disjunction.specs.Rule.{Place, Grown, rowIn, member, joins, rowTest}
@@ -33,14 +33,13 @@ NoneIn k ok = (i : ℕ) → i < k → ok i ≡ false
 abbrev pub tested : Catalogue → List ℕ → ℕ → ℕ → ℕ → Bool
 tested cat cells key t i = rowTest (worldOf cat cells) (setOf cat key) (record { table = t; row = suc i })
 
--- These are the scheme, the first cell and the row count of table t, and the merged row is that of the key's set. A closed table has no row that the
--- row test admits.
+-- These are the scheme and the first cell of table t, and the merged row is that of the key's set. If the table is closed, the row test admits none of its
+-- first `count` rows.
 pub record TableOf (cat : Catalogue) (cells : List ℕ) (key t scheme base count attrs closed : ℕ) (codes : List ℕ) : Type 0 where
   pub lawful : Lawful cat (length cells)
   pub table : t < cat .n
   pub has-scheme : scheme ≡ schemeOf cat t
   pub has-base : base ≡ firstCell cat t
-  pub has-count : count ≡ countOf cat t
   pub merged : Merged cat cells (at (setOf cat key)) codes attrs
   pub none : bitOf closed t ≡ true → NoneIn count (tested cat cells key t)
 

@@ -79,7 +79,6 @@ looked f =
       table = turn w;
       has-scheme = refl;
       has-base = place w;
-      has-count = refl;
       merged = l .before .rounds .inv .0 .merged;
       none = shut-test _ _ _ _ (l .loop .inv .2) _ (turn w);
     })
