@@ -16,6 +16,7 @@ use Rattle.tables.specs.Catalogues.{total}
 use Rattle.tables.specs.Checks.{Lawful}
 use Rattle.tables.proofs.CatalogueLaws.{rows-few}
 use Rattle.disjunction.specs.Rule.{Grown, rows}
+use Rattle.disjunction.specs.Asked.{everySet}
 use Rattle.disjunction.proofs.Extending.{extension-valid}
 use Rattle.rows.specs.World.{worldOf}
 use Rattle.rows.proofs.WorldLaws.{rows-total}
@@ -51,7 +52,7 @@ put-four a b c d (x ∷ (y ∷ (z ∷ (w ∷ l)))) h = refl
 
 module _ (cat : Catalogue) (cells keys left right : List ℕ) where
   -- The first row takes at most n * N tests.
-  first-few : Lawful cat (length cells) → 0 < total cat → firstGrown cat cells .tests ≤ 8 * 2040
+  first-few : Lawful cat (length cells) → 0 < total cat → firstGrown cat cells everySet .tests ≤ 8 * 2040
   first-few L h =
       let x = place-there cat cells 0 h in
       let N = alone-named cat _ _ x (row-small cat (length cells) L _ _ x) in
@@ -63,21 +64,21 @@ module _ (cat : Catalogue) (cells keys left right : List ℕ) where
 
   -- A refusal comes with no tests, so its number is its own.
   pub opening-low : (top : ℕ) → 1000000 ≤ top → opening cat cells keys left right .refusal < top → openedNumber (opening cat cells keys left right) < top
-  opening-low top big r = by (openFault cat (length cells) (storeIn keys left right 0)) refl
+  opening-low top big r = by (openFault cat (length cells) everySet (storeIn keys left right 0)) refl
     where
-      by : (k : ℕ) → openFault cat (length cells) (storeIn keys left right 0) ≡ k → openedNumber (opening cat cells keys left right) < top
+      by : (k : ℕ) → openFault cat (length cells) everySet (storeIn keys left right 0) ≡ k → openedNumber (opening cat cells keys left right) < top
       by (suc k) e =
-          let o = opening-refused cat cells keys left right (suc k) e (λ z. omega arith) in
+          let o = opening-refused cat cells everySet keys left right (suc k) e (λ z. omega arith) in
           rw o (omega (arith, rw o at r))
       by zero e = ⊎-elim none some (eq-zero-or-pos (total cat))
         where
           none : total cat ≡ 0 → openedNumber (opening cat cells keys left right) < top
-          none z = rw (opening-empty cat cells keys left right e z) (omega arith)
+          none z = rw (opening-empty cat cells everySet keys left right e z) (omega arith)
 
           some : 0 < total cat → openedNumber (opening cat cells keys left right) < top
           some h =
-              let L = open-clear cat (length cells) (storeIn keys left right 0) e .0 in
-              rw (opening-begun cat cells keys left right e h) (omega (arith, first-few L h))
+              let L = open-clear cat (length cells) everySet (storeIn keys left right 0) e .0 in
+              rw (opening-begun cat cells everySet keys left right e h) (omega (arith, first-few L h))
 
   pub opened-low : (r : OpenAnswer) (keys′ left′ right′ : List ℕ) (top : ℕ) → 1000000 ≤ top → openedOf r keys′ left′ right′ ≡ opening cat cells keys left right
       → r .refusal < top → r .tests * 32 + r .refusal < top

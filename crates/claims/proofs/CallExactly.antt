@@ -12,12 +12,13 @@ use Rattle.laws.proofs.TestLaws.{which, clash}
 use Rattle.tables.specs.declared.Catalogue.{Catalogue}
 use Rattle.tables.specs.Checks.{Lawful, catalogueFault}
 use Rattle.tables.proofs.CheckLaws.{fault-lawful}
+use Rattle.disjunction.specs.Asked.{Asked}
 use Rattle.store.specs.Store.{storeIn}
-use Rattle.machine.specs.Machine.{State, Trial, done, full, damaged, trialOn, Says, aSet, finished, working, refused, Called, afterTrial, Fit, unfit, callFault, work, call, opening}
+use Rattle.machine.specs.Machine.{State, Trial, done, full, damaged, trialOn, Says, aSet, finished, working, refused, Called, afterTrial, Fit, unfit, callFault, work, call, openingFor}
 use Rattle.machine.proofs.WorkLaws.{work-lost, work-trial, by-ways}
 use Rattle.machine.proofs.RefusalLaws.{unfit-iff, unfit-met, call-catalogue, call-unfit, call-short, call-free, call-refused, call-works, open-catalogue, opening-says}
 use Rattle.claims.specs.CallRefusals.{TrialDue, WorksTo, here, tried, LostDue, CallExact, OpenExact}
-use Rattle.claims.proofs.Opens.{opens-iff, full-iff}
+use Rattle.claims.proofs.Opens.{opens-iff, stray-met-iff, full-iff}
 use Rattle.claims.proofs.ScanLaws.{Case}
 use Rattle.claims.proofs.CatalogueExactly.{catalogue-exact}
 
@@ -183,21 +184,25 @@ module _ (cat : Catalogue) (cells : List ℕ) (b : ℕ) (q : State) (row : List 
 
 -- ---- open
 
-pub open-exact : (cat : Catalogue) (cells keys left right : List ℕ) → OpenExact cat cells keys left right
-open-exact cat cells keys left right =
+pub open-exact : (cat : Catalogue) (cells : List ℕ) (a : Asked) (keys left right : List ℕ) → OpenExact cat cells a keys left right
+open-exact cat cells a keys left right =
     record {
       catalogue = λ k h. (λ e. sym (given h) ∙ e, λ e. given h ∙ e);
-      refusal-12 = (
-        λ e. let L = lawful 12 (omega arith) e in let (n, z) = full-iff cat cells keys left right L .0 e in (L, n, z),
-        λ (L, n, z). full-iff cat cells keys left right L .1 (n, z),
+      refusal-19 = (
+        λ e. let L = lawful 19 (omega arith) e in (L, stray-met-iff cat cells a keys left right L .0 e),
+        λ (L, n). stray-met-iff cat cells a keys left right L .1 n,
       );
-      none = opens-iff cat cells keys left right;
+      refusal-12 = (
+        λ e. let L = lawful 12 (omega arith) e in let (y, n, z) = full-iff cat cells a keys left right L .0 e in (L, y, n, z),
+        λ (L, y, n, z). full-iff cat cells a keys left right L .1 (y, n, z),
+      );
+      none = opens-iff cat cells a keys left right;
     }
   where
-    given : (catalogueFault cat (length cells) ≡ 0 → ⊥) → opening cat cells keys left right .refusal ≡ catalogueFault cat (length cells)
-    given h = opening-says cat cells keys left right ∙ open-catalogue cat (length cells) (storeIn keys left right 0) h
+    given : (catalogueFault cat (length cells) ≡ 0 → ⊥) → openingFor cat cells a keys left right .refusal ≡ catalogueFault cat (length cells)
+    given h = opening-says cat cells a keys left right ∙ open-catalogue cat (length cells) a (storeIn keys left right 0) h
 
-    lawful : (k : ℕ) → 8 < k → opening cat cells keys left right .refusal ≡ k → Lawful cat (length cells)
+    lawful : (k : ℕ) → 8 < k → openingFor cat cells a keys left right .refusal ≡ k → Lawful cat (length cells)
     lawful k l e =
         elim (ℕ-discrete (catalogueFault cat (length cells)) 0) [
           | yes z ↦ fault-lawful cat (length cells) z

@@ -16,14 +16,16 @@ use Rattle.keys.specs.Keys.{bitsPerRow, keyOf}
 use Rattle.tables.specs.declared.Catalogue.{Catalogue}
 use Rattle.tables.specs.Catalogues.{total}
 use Rattle.tables.specs.Checks.{Lawful}
-use Rattle.disjunction.specs.Sets.{Maximal, MoreThan}
+use Rattle.disjunction.specs.Sets.{MoreOf}
+use Rattle.disjunction.specs.Asked.{Asked, Sought}
 use Rattle.disjunction.specs.Keeping as Sets
 use Rattle.disjunction.specs.Keeping.{take}
-use Rattle.disjunction.proofs.KeepingLaws.{going-take}
+use Rattle.disjunction.proofs.KeepingLaws.{going-sought, going-take}
+use Rattle.disjunction.proofs.AskedLaws.{sought-maximal}
 use Rattle.rows.specs.Named.{named}
 use Rattle.rows.proofs.WorldLaws.{rows-total}
 use Rattle.rows.proofs.NamedLaws.{named-iff}
-use Rattle.machine.specs.Machine.{State, keyAt, done, deepest, trialOn, Says, aSet, finished, working, refused, Called, answer, counted, takenOf, Fit, work, call}
+use Rattle.machine.specs.Machine.{State, Askable, keyAt, done, deepest, trialOn, Says, aSet, finished, working, refused, Called, answer, counted, takenOf, Fit, work, call}
 use Rattle.machine.specs.Runs.{keysIn}
 use Rattle.machine.proofs.WorkLaws.{by-ways}
 use Rattle.machine.proofs.RefusalLaws.{call-short, call-free, call-refused, call-works}
@@ -33,25 +35,7 @@ use Rattle.claims.proofs.Live.{W, listed, Live, Did, Comes, maximal-nam
 abbrev pub takenKeys : State → List ℕ
 takenKeys q = tab (q .taken) (keyAt q)
 
-module _ (cat : Catalogue) (cells : List ℕ) where
-  -- A stream over no rows.
-  pub record Empty (q : State) : Type 0 where
-    pub none : total cat ≡ 0
-    pub found : q .store .found ≡ 0
-    pub taken : q .taken ≡ 0
-    pub next : q .next ≡ 0
-
-  -- A stream that is as it should be.
-  abbrev pub Sound : ℕ → State → Type 0
-  Sound c q = Live cat cells c q ⊎ Empty q
-
-  -- The sets in the store, as the rule over a list of sets has them.
-  abbrev pub listOf : (c : ℕ) (q : State) → Sound c q → Sets.State
-  listOf c q (inl g) = listed cat cells (g .sets) q
-  listOf c q (inr g) = listed cat cells [] q
-
-  -- ---- what a call says, by its answer
-
+module _ (cat : Catalogue) where
   -- How far a call got: to a set, to the end, or on its way.
   pub record ToSet (q : State) (s : Called) : Type 0 where
     pub trials : q .next + s .trials ≡ total cat
@@ -68,15 +52,37 @@ module _ (cat : Catalogue) (cells : List ℕ) where
     pub next : s .after .next ≡ q .next + s .trials
     pub taken : s .after .taken ≡ q .taken
 
+-- `a` is what the stream is asked for.
+module _ (cat : Catalogue) (cells : List ℕ) (a : Asked) where
+  -- A stream over no rows.
+  pub record Empty (q : State) : Type 0 where
+    pub none : total cat ≡ 0
+    pub found : q .store .found ≡ 0
+    pub taken : q .taken ≡ 0
+    pub next : q .next ≡ 0
+    pub asked : q .asked ≡ a
+    pub able : Askable cat a
+
+  -- A stream that is as it should be.
+  abbrev pub Sound : ℕ → State → Type 0
+  Sound c q = Live cat cells a c q ⊎ Empty q
+
+  -- The sets in the store, as the rule over a list of sets has them.
+  abbrev pub listOf : (c : ℕ) (q : State) → Sound c q → Sets.State
+  listOf c q (inl g) = listed cat cells (g .sets) q
+  listOf c q (inr g) = listed cat cells [] q
+
+  -- ---- what a call says, by its answer
+
   -- The only refusals: 12, and 11 where the lent row is too short.
   abbrev pub Refusal : ℕ → List ℕ → ℕ → Type 0
-  Refusal c row r = ((r ≡ 12) × MoreThan (W cat cells) c) ⊎ ((r ≡ 11) × (length row < cat .m))
+  Refusal c row r = ((r ≡ 12) × MoreOf (Sought (W cat cells) a) c) ⊎ ((r ≡ 11) × (length row < cat .m))
 
   abbrev pub Said : ℕ → State → ℕ → List ℕ → Called → Says → Type 0
-  Said c q b row s aSet = ToSet q s
-  Said c q b row s finished = ToEnd q s
-  Said c q b row s working = OnWay q s × (s .trials ≡ b) × (s .after .next ≡ total cat → ⊥)
-  Said c q b row s (refused r) = OnWay q s × Refusal c row r
+  Said c q b row s aSet = ToSet cat q s
+  Said c q b row s finished = ToEnd cat q s
+  Said c q b row s working = OnWay cat q s × (s .trials ≡ b) × (s .after .next ≡ total cat → ⊥)
+  Said c q b row s (refused r) = OnWay cat q s × Refusal c row r
 
   -- What call s from q, with budget b and this row lent, is.
   pub record Went (c : ℕ) (q : State) (b : ℕ) (row : List ℕ) (s : Called) : Type 0 where
@@ -97,11 +103,11 @@ module _ (cat : Catalogue) (cells : List ℕ) where
   taken-le c q (inr g) = omega (arith, g .taken)
 
   -- Where a trial or a set is due, the stream is live.
-  pub live-trial : (c : ℕ) (q : State) → Sound c q → (q .next ≡ total cat → ⊥) → Live cat cells c q × (q .next < total cat)
+  pub live-trial : (c : ℕ) (q : State) → Sound c q → (q .next ≡ total cat → ⊥) → Live cat cells a c q × (q .next < total cat)
   live-trial c q (inl g) e = (g, omega (arith, next-le c q (inl g)))
   live-trial c q (inr g) e = absurd (e (g .next ∙ sym (g .none)))
 
-  pub live-set : (c : ℕ) (q : State) → Sound c q → (q .taken ≡ q .store .found → ⊥) → Live cat cells c q × (q .taken < q .store .found)
+  pub live-set : (c : ℕ) (q : State) → Sound c q → (q .taken ≡ q .store .found → ⊥) → Live cat cells a c q × (q .taken < q .store .found)
   live-set c q (inl g) e = (g, omega (arith, taken-le c q (inl g)))
   live-set c q (inr g) e = absurd (e (g .taken ∙ sym (g .found)))
 
@@ -114,6 +120,7 @@ module _ (cat : Catalogue) (cells : List ℕ) where
         begun = g .begun;
         some = λ m. g .tree .1 .some;
         none = λ z. absurd (omega (arith, g .some));
+        asked = subst (Askable cat) (sym (g .asked)) (g .able);
       }
   sound-fit c q (inr g) =
       record {
@@ -123,25 +130,26 @@ module _ (cat : Catalogue) (cells : List ℕ) where
         begun = λ z. g .next ∙ sym (g .none);
         some = λ m. absurd (omega (arith, g .none));
         none = λ z. g .found;
+        asked = subst (Askable cat) (sym (g .asked)) (g .able);
       }
 
   module _ (L : Lawful cat (length cells)) where
-    -- Every record is a maximal set, ..
-    pub record-maximal : (c : ℕ) (q : State) → Live cat cells c q → (p : ℕ) → p < q .store .found
-        → (T : List ℕ) × Maximal (W cat cells) T × (keyAt q p ≡ keyOf bitsPerRow T)
-    record-maximal c q g p l =
+    -- Every record is a set that is asked for, ..
+    pub record-sought : (c : ℕ) (q : State) → Live cat cells a c q → (p : ℕ) → p < q .store .found
+        → (T : List ℕ) × Sought (W cat cells) a T × (keyAt q p ≡ keyOf bitsPerRow T)
+    record-sought c q g p l =
         let T : List ℕ = getD (g .sets) p [] in
-        (T, g .going .maximal T (mem-at (g .sets) [] p (omega (arith, g .long))), g .keyed p l)
+        (T, going-sought (W cat cells) a (listed cat cells (g .sets) q) (g .going) T (mem-at (g .sets) [] p (omega (arith, g .long))), g .keyed p l)
 
     -- .. so its key passes 14's test.
-    pub named-at : (c : ℕ) (q : State) → Live cat cells c q → (p : ℕ) → p < q .store .found → named cat (keyAt q p) ≡ true
+    pub named-at : (c : ℕ) (q : State) → Live cat cells a c q → (p : ℕ) → p < q .store .found → named cat (keyAt q p) ≡ true
     named-at c q g p l =
-        let (T, x, e) = record-maximal c q g p l in
-        ap (named cat) e ∙ named-iff cat (keyOf bitsPerRow T) .1 (maximal-named cat cells L T x)
+        let (T, x, e) = record-sought c q g p l in
+        ap (named cat) e ∙ named-iff cat (keyOf bitsPerRow T) .1 (maximal-named cat cells L T (sought-maximal (W cat cells) a T x))
 
     -- A record is taken.
-    pub took : (c : ℕ) (q : State) (g : Live cat cells c q) → q .next ≡ total cat → q .taken < q .store .found
-        → (l : Live cat cells c (takenOf q)) × (l .sets ≡ g .sets)
+    pub took : (c : ℕ) (q : State) (g : Live cat cells a c q) → q .next ≡ total cat → q .taken < q .store .found
+        → (l : Live cat cells a c (takenOf q)) × (l .sets ≡ g .sets)
     unfolding take
     took c q g e l = (
       record {
@@ -149,21 +157,23 @@ module _ (cat : Catalogue) (cells : List ℕ) where
         tree = g .tree;
         long = g .long;
         keyed = g .keyed;
-        going = going-take (W cat cells) (listed cat cells (g .sets) q) (g .going) (omega (arith, g .long)) (e ∙ sym (rows-total cat cells));
+        going = going-take (W cat cells) a (listed cat cells (g .sets) q) (g .going) (omega (arith, g .long)) (e ∙ sym (rows-total cat cells));
         size = g .size;
         within = g .within;
         begun = λ z. absurd (omega arith);
         some = g .some;
+        asked = g .asked;
+        able = g .able;
       },
       refl,
     )
 
     -- A trial that was done.
-    pub did : (c : ℕ) (q p : State) (t l : ℕ) (g : Live cat cells c q) → q .next < total cat → trialOn cat cells q ≡ done p t l → Did cat cells c q g p t l
-    did c q p t l g h f = subst (Comes cat cells c q g) f (tried cat cells L c q g h)
+    pub did : (c : ℕ) (q p : State) (t l : ℕ) (g : Live cat cells a c q) → q .next < total cat → trialOn cat cells q ≡ done p t l → Did cat cells a c q g p t l
+    did c q p t l g h f = subst (Comes cat cells a c q g) f (tried cat cells a L c q g h)
 
     -- The rest of a call after it.
-    said-on : (c b : ℕ) (row : List ℕ) (q p : State) (t l : ℕ) (s : Called) (g : Live cat cells c q) → Did cat cells c q g p t l
+    said-on : (c b : ℕ) (row : List ℕ) (q p : State) (t l : ℕ) (s : Called) (g : Live cat cells a c q) → Did cat cells a c q g p t l
         → (a : Says) → Said c p b row s a → Said c q (suc b) row (counted t l s) a
     said-on c b row q p t l s g d aSet x =
         record { trials = omega (arith, x .trials, d .bound .next); next = x .next; taken = omega (arith, x .taken, d .bound .taken) }
@@ -173,7 +183,7 @@ module _ (cat : Catalogue) (cells : List ℕ) where
         (record { next = omega (arith, x .next, d .bound .next); taken = x .taken ∙ d .bound .taken }, ap suc y, z)
     said-on c b row q p t l s g d (refused r) (x, y) = (record { next = omega (arith, x .next, d .bound .next); taken = x .taken ∙ d .bound .taken }, y)
 
-    went-on : (c b : ℕ) (row : List ℕ) (q p : State) (t l : ℕ) (s : Called) (g : Live cat cells c q) → Did cat cells c q g p t l → Went c p b row s
+    went-on : (c b : ℕ) (row : List ℕ) (q p : State) (t l : ℕ) (s : Called) (g : Live cat cells a c q) → Did cat cells a c q g p t l → Went c p b row s
         → Went c q (suc b) row (counted t l s)
     went-on c b row q p t l s g d x =
         record {
@@ -212,9 +222,9 @@ module _ (cat : Catalogue) (cells : List ℕ) where
           spent = λ q e g. stood c 0 row q working g refl (record { next = omega arith; taken = refl }, refl, e);
           fills = λ b q e f g.
               let (live, l) = live-trial c q g e in
-              let m = subst (Comes cat cells c q live) f (tried cat cells L c q live l) in
+              let m = subst (Comes cat cells a c q live) f (tried cat cells a L c q live l) in
               stood c (suc b) row q (refused 12) g refl (record { next = omega arith; taken = refl }, inl (refl, m));
-          fails = λ b q e f g. let (live, l) = live-trial c q g e in absurd (subst (Comes cat cells c q live) f (tried cat cells L c q live l));
+          fails = λ b q e f g. let (live, l) = live-trial c q g e in absurd (subst (Comes cat cells a c q live) f (tried cat cells a L c q live l));
           goes = λ b q p t l e f ih g.
               let (live, h) = live-trial c q g e in
               let d = did c q p t l live h f in

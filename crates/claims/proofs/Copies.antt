@@ -10,6 +10,7 @@ use borrow.Author.Tests.{ltb-true, ltb-false}
 use Rattle.keys.specs.Keys.{bitsPerRow, keyOf}
 use Rattle.tables.specs.declared.Catalogue.{Catalogue}
 use Rattle.disjunction.specs.Rule.{rowAt, trial}
+use Rattle.disjunction.specs.Asked.{Asked, wanted}
 use Rattle.rows.specs.World.{worldOf, setOf}
 use Rattle.rows.specs.Named.{named}
 use Rattle.store.specs.Store as Store
@@ -18,7 +19,7 @@ use Rattle.store.specs.declared.Looked.{Looked}
 use Rattle.store.specs.declared.Looked.the-variants.{Found, Absent, Damaged}
 use Rattle.store.specs.declared.Placed.the-variants.{Added, Full}
 use Rattle.store.proofs.StoreLaws.{absent-place, room-added, copy-search, copy-added}
-use Rattle.machine.specs.Machine.{State, keyAt, Trial, done, full, damaged, raised, placed, offered, deepest, trialDue, trialOn}
+use Rattle.machine.specs.Machine.{State, keyAt, Trial, done, full, damaged, raised, placed, offered, offeredIf, deepest, trialDue, trialOn}
 use Rattle.claims.specs.Demands.{Copy}
 
 pub copy-trans : (e m r : State) → Copy e m → Copy e r → Copy m r
@@ -33,6 +34,7 @@ copy-trans e m r a b =
       };
       taken = b .taken ∙ sym (a .taken);
       next = b .next ∙ sym (a .next);
+      asked = b .asked ∙ sym (a .asked);
     }
 
 -- The trial on q was done and left p; that on its copy r comes to u, with the same counts: the states are copies, and neither store changed its size.
@@ -51,7 +53,7 @@ Alike q r damaged u = u ≡ damaged
 
 module _ (q r : State) (c : Copy q r) (h : roomIn (q .store) ≤ roomIn (r .store)) (some : 0 < q .store .found) (key tests : ℕ) where
   raise : {s u : Store.Store} → Store.Copy s u → Copy (raised q s) (raised r u)
-  raise k = record { store = k; taken = c .taken; next = ap (λ (n : ℕ). n + 1) (c .next) }
+  raise k = record { store = k; taken = c .taken; next = ap (λ (n : ℕ). n + 1) (c .next); asked = c .asked }
 
   byRoom : (p : ℕ) (s : Bool) (n : ℕ) → p < q .store .found → (x y : Bool)
       → ltb (q .store .found) (roomIn (q .store)) ≡ x → ltb (r .store .found) (roomIn (r .store)) ≡ y
@@ -89,6 +91,11 @@ module _ (q r : State) (c : Copy q r) (h : roomIn (q .store) ≤ roomIn (r .stor
       rw (copy-search (q .store) (r .store) key deepest (c .store) some)
       (byLooked (searchOf (q .store) key deepest) (λ p s n e. absent-place (q .store) key deepest some (sym e)))
 
+  -- Or to neither.
+  offer-copy-if : (deepest : ℕ) (b : Bool) → Alike q r (offeredIf b deepest q key tests) (offeredIf b deepest r key tests)
+  offer-copy-if deepest true = offer-copy deepest
+  offer-copy-if deepest false = record { state = raised r (r .store); it = refl; copy = raise (c .store); short = refl; long = refl }
+
 module _ (cat : Catalogue) (cells : List ℕ) where
   pub trial-copy : (q r : State) → Copy q r → roomIn (q .store) ≤ roomIn (r .store) → 0 < q .store .found → q .taken ≤ q .store .found
       → Alike q r (trialOn cat cells q) (trialOn cat cells r)
@@ -98,18 +105,21 @@ module _ (cat : Catalogue) (cells : List ℕ) where
       k : ℕ
       k = keyAt q (q .taken - 1)
 
-      -- The trial in state v, of the row at place j on the set of key x.
-      at : State → ℕ → ℕ → Trial
-      at v x j =
+      -- The trial in state v, of the row at place j on the set of key x, asked for a.
+      at : State → ℕ → ℕ → Asked → Trial
+      at v x j a =
           let g = trial (worldOf cat cells) (setOf cat x) (rowAt (worldOf cat cells) j) in
-          offered (deepest cat) v (keyOf bitsPerRow (g .rows)) (g .tests)
+          offeredIf (wanted a (g .rows)) (deepest cat) v (keyOf bitsPerRow (g .rows)) (g .tests)
 
       -- The copy is tried on the same set with the same row.
-      same : trialOn cat cells r ≡ cond (named cat k) (at r k (q .next)) damaged
+      same : trialOn cat cells r ≡ cond (named cat k) (at r k (q .next) (q .asked)) damaged
       same =
-          ap₂ (λ (x j : ℕ). cond (named cat x) (at r x j) damaged)
+          ap₂ (λ (x j : ℕ). cond (named cat x) (at r x j (r .asked)) damaged)
           (ap (λ (x : ℕ). keyAt r (x - 1)) (c .taken) ∙ c .store .keys (q .taken - 1) (omega arith)) (c .next)
+          ∙ ap (λ (a : Asked). cond (named cat k) (at r k (q .next) a) damaged) (c .asked)
 
-      by : (y : Bool) → Alike q r (cond y (at q k (q .next)) damaged) (cond y (at r k (q .next)) damaged)
-      by true = offer-copy q r c h some (keyOf bitsPerRow (trialDue cat cells q .rows)) (trialDue cat cells q .tests) (deepest cat)
+      by : (y : Bool) → Alike q r (cond y (at q k (q .next) (q .asked)) damaged) (cond y (at r k (q .next) (q .asked)) damaged)
+      by true =
+          offer-copy-if q r c h some (keyOf bitsPerRow (trialDue cat cells q .rows)) (trialDue cat cells q .tests) (deepest cat)
+          (wanted (q .asked) (trialDue cat cells q .rows))
       by false = refl

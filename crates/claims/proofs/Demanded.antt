@@ -1,10 +1,10 @@
--- Demands 2 and 3 hold of the stream of document 01, wherever open gave no refusal. Each is read from the sound stream that open gave. Assumes nothing.
+-- Demands 2 and 3 hold of the stream of document 01 and of that of one row, wherever open gave no refusal. Each is read from the sound stream that open gave. Assumes nothing.
 use Prim.Native.Nat.{ℕ, _+_, _-_, _*_, _≤_, _<_}
 use native.Mathlib.Omega.{arith}
 use native.Mathlib.Nat.{mul-comm, zero-mul}
 use native.Mathlib.Decide.{ℕ-discrete}
 use mathlib.Core.Path.{_≡_, refl, sym, ap, subst, _∙_}
-use mathlib.Core.Logic.{_⊎_, inl, inr, ⊎-elim}
+use mathlib.Core.Logic.{_⊎_, inl, inr, ⊎-elim, _↔_}
 use mathlib.Core.List.{List, [], _∷_, _++_, List·Memᴰ, List·Memᴰ·head, Memᴰ·append-right}
 use lib.ListN.{length, drop}
 use lib.Seq.{take-at, drop-at}
@@ -14,19 +14,22 @@ use Rattle.keys.specs.Keys.{bitsPerRow, keyOf}
 use Rattle.tables.specs.declared.Catalogue.{Catalogue}
 use Rattle.tables.specs.Catalogues.{total}
 use Rattle.tables.specs.Checks.{Lawful}
-use Rattle.disjunction.specs.Sets.{Tables, Maximal, MoreThan}
+use Rattle.disjunction.specs.Sets.{MoreOf, Tables, at, Maximal}
+use Rattle.disjunction.specs.Rule.{Place}
+use Rattle.disjunction.specs.Asked.{Asked, everySet, everyWith, Sought}
 use Rattle.disjunction.specs.Cells.{padded, Embedding, tables}
 use Rattle.disjunction.specs.Keeping.{listMoves, testsIn}
+use Rattle.disjunction.proofs.AskedLaws.{sought-maximal}
 use Rattle.disjunction.proofs.CellLaws.{padded-long, padded-embedding}
-use Rattle.rows.specs.World.{cellsIn, setOf}
+use Rattle.rows.specs.World.{cellsIn, worldOf, setOf}
 use Rattle.rows.proofs.WorldLaws.{world-tables}
 use Rattle.store.specs.Store.{storeIn, roomIn}
-use Rattle.machine.specs.Machine.{State, keyAt, deepest, Says, aSet, finished, refused, Called, paddedIn, work, call, opening}
-use Rattle.machine.specs.Runs.{Given, keysIn, handed, sum}
+use Rattle.machine.specs.Machine.{State, keyAt, deepest, Says, aSet, finished, refused, Called, paddedIn, work, call, openingFor, opening, openingRow}
+use Rattle.machine.specs.Runs.{Given, runOf, keysIn, handed, sum}
 use Rattle.machine.proofs.WorkLaws.{work-ends, work-hands, RowBy}
 use Rattle.claims.specs.Demands.{Answered, Closes, Able, made, Padded, Holds, goesOn, Gap, Demand2, Demand3, Demands}
 use Rattle.claims.proofs.Live.{W, maximal-set}
-use Rattle.claims.proofs.Calls.{takenKeys, Sound, ToSet, ToEnd, Said, Went, taken-le, live-set, sound-fit, record-maximal, named-at, went, call-work, call-low, by-call, called}
+use Rattle.claims.proofs.Calls.{takenKeys, Sound, ToSet, ToEnd, Said, Went, taken-le, live-set, sound-fit, record-sought, named-at, went, call-work, call-low, by-call, called}
 use Rattle.claims.proofs.Opens.{Begins, begins}
 use Rattle.claims.proofs.Exact.{call-row}
 use Rattle.claims.proofs.Steps.{work-split, run-moves}
@@ -49,33 +52,35 @@ module _ (cat : Catalogue) (cells : List ℕ) (L : Lawful cat (length cells)) wh
         rest = drop-at (padded C (setOf cat k)) r (cat .m) n ∙ ap (λ (i : ℕ). drop i row) n;
       }
 
+-- `a` is what the stream is asked for.
+module _ (cat : Catalogue) (cells : List ℕ) (a : Asked) (L : Lawful cat (length cells)) where
   -- ---- a budget cut in two
 
-  pub call-split : (c a b : ℕ) (q : State) (row : List ℕ) → Sound cat cells c q
-      → call cat cells (a + b) q row ≡ goesOn (call cat cells a q row .says) (call cat cells a q row) (call cat cells b (call cat cells a q row .after) row)
-  call-split c a b q row g =
-      by-call cat cells L (λ s. s ≡ goesOn (call cat cells a q row .says) (call cat cells a q row) (call cat cells b (call cat cells a q row .after) row)) c (a + b) q row g
+  pub call-split : (c i j : ℕ) (q : State) (row : List ℕ) → Sound cat cells a c q
+      → call cat cells (i + j) q row ≡ goesOn (call cat cells i q row .says) (call cat cells i q row) (call cat cells j (call cat cells i q row .after) row)
+  call-split c i j q row g =
+      by-call cat cells a L (λ s. s ≡ goesOn (call cat cells i q row .says) (call cat cells i q row) (call cat cells j (call cat cells i q row .after) row)) c (i + j) q row g
       (λ h.
-      let s = work cat cells a q row in
-      let f = call-work cat cells L c b (s .after) row (went cat cells L c a row q g .sound) h in
-      work-split cat cells row a b q
+      let s = work cat cells i q row in
+      let f = call-work cat cells a L c j (s .after) row (went cat cells a L c i row q g .sound) h in
+      work-split cat cells row i j q
       ∙ ap (goesOn (s .says) s) (sym f)
-      ∙ ap (λ (u : Called). goesOn (u .says) u (call cat cells b (u .after) row)) (sym (call-work cat cells L c a q row g h)))
-      (λ h. ap (λ (u : Called). goesOn (u .says) u (call cat cells b (u .after) row)) (sym (call-low cat cells L c a q row g h)))
+      ∙ ap (λ (u : Called). goesOn (u .says) u (call cat cells j (u .after) row)) (sym (call-work cat cells a L c i q row g h)))
+      (λ h. ap (λ (u : Called). goesOn (u .says) u (call cat cells j (u .after) row)) (sym (call-low cat cells a L c i q row g h)))
 
   -- ---- an opened stream, in a store of c records
 
-  module _ (c : ℕ) (q : State) (o : Begins cat cells c q) where
-    abbrev at-end : (gs : List Given) → Sound cat cells c (ended cat cells gs q)
-    at-end gs = still cat cells L c gs q (o .sound)
+  module _ (c : ℕ) (q : State) (o : Begins cat cells a c q) where
+    abbrev at-end : (gs : List Given) → Sound cat cells a c (ended cat cells gs q)
+    at-end gs = still cat cells a L c gs q (o .sound)
 
-    abbrev then : (gs : List Given) (b : ℕ) (row : List ℕ) → Went cat cells c (ended cat cells gs q) b row (call cat cells b (ended cat cells gs q) row)
-    then gs b row = called cat cells L c b (ended cat cells gs q) row (at-end gs)
+    abbrev then : (gs : List Given) (b : ℕ) (row : List ℕ) → Went cat cells a c (ended cat cells gs q) b row (call cat cells b (ended cat cells gs q) row)
+    then gs b row = called cat cells a L c b (ended cat cells gs q) row (at-end gs)
 
     -- What was handed out are the records taken.
     handed-all : (gs : List Given) → handed (run cat cells gs q) ≡ takenKeys (ended cat cells gs q)
     unfolding tab
-    handed-all gs = ap (λ (k : ℕ). tab k (keyAt q) ++ handed (run cat cells gs q)) (sym (o .taken)) ∙ handed-taken cat cells L c gs q (o .sound)
+    handed-all gs = ap (λ (k : ℕ). tab k (keyAt q) ++ handed (run cat cells gs q)) (sym (o .taken)) ∙ handed-taken cat cells a L c gs q (o .sound)
 
     padded-set : (gs : List Given) (b : ℕ) (row : List ℕ) → call cat cells b (ended cat cells gs q) row .says ≡ aSet
         → Padded cat cells (call cat cells b (ended cat cells gs q) row .key) row (call cat cells b (ended cat cells gs q) row .row)
@@ -86,19 +91,20 @@ module _ (cat : Catalogue) (cells : List ℕ) (L : Lawful cat (length cells)) wh
         let r : s .row ≡ paddedIn cat cells (s .key) row = subst (RowBy cat cells row s) e (call-row cat cells row b p) in
         let k : takenKeys p ++ (s .key ∷ []) ≡ takenKeys (s .after) = subst (λ (a : Says). takenKeys p ++ keysIn a (s .key) ≡ takenKeys (s .after)) e (x .keys) in
         let m : List·Memᴰ (s .key) (takenKeys (s .after)) = subst (λ (l : List ℕ). List·Memᴰ (s .key) l) k (Memᴰ·append-right (takenKeys p) (List·Memᴰ·head refl)) in
-        let (T, t, f) = taken-only cat cells L c (s .after) (x .sound) (s .key) m in
-        subst (Padded cat cells (s .key) row) (sym r) (put-padded T (s .key) row t (ap (setOf cat) f ∙ maximal-set cat cells L T t))
+        let (T, t, f) = taken-only cat cells a L c (s .after) (x .sound) (s .key) m in
+        let x′ = sought-maximal (W cat cells) a T t in
+        subst (Padded cat cells (s .key) row) (sym r) (put-padded cat cells L T (s .key) row x′ (ap (setOf cat) f ∙ maximal-set cat cells L T x′))
 
-    pub demand2 : Demand2 cat cells (call cat cells) q
+    pub demand2 : Demand2 cat cells a (call cat cells) q
     demand2 =
         record {
-          only = λ gs k m. taken-only cat cells L c (ended cat cells gs q) (at-end gs) k (subst (λ (l : List ℕ). List·Memᴰ k l) (handed-all gs) m);
+          only = λ gs k m. taken-only cat cells a L c (ended cat cells gs q) (at-end gs) k (subst (λ (l : List ℕ). List·Memᴰ k l) (handed-all gs) m);
           once = λ gs.
               let p = ended cat cells gs q in
-              subst (λ (l : List ℕ). Distinct l) (sym (handed-all gs)) (taken-once cat cells L c p (at-end gs) (taken-le cat cells c p (at-end gs)));
+              subst (λ (l : List ℕ). Distinct l) (sym (handed-all gs)) (taken-once cat cells a L c p (at-end gs) (taken-le cat cells a c p (at-end gs)));
           every = λ gs f T x.
-              subst (λ (l : List ℕ). List·Memᴰ (keyOf bitsPerRow T) l) (handed-taken cat cells L c gs q (o .sound) ∙ sym (handed-all gs))
-              (all-handed cat cells L c gs q (o .sound) f T x);
+              subst (λ (l : List ℕ). List·Memᴰ (keyOf bitsPerRow T) l) (handed-taken cat cells a L c gs q (o .sound) ∙ sym (handed-all gs))
+              (all-handed cat cells a L c gs q (o .sound) f T x);
           named = maximal-set cat cells L;
           padded = padded-set;
         }
@@ -109,22 +115,22 @@ module _ (cat : Catalogue) (cells : List ℕ) (L : Lawful cat (length cells)) wh
         → (r ≡ 12) ⊎ ((r ≡ 11) × (length row < cat .m))
     refusals gs b row r e =
         let p = ended cat cells gs q in
-        ⊎-elim (λ x. inl (x .0)) (λ x. inr x) (subst (Said cat cells c p b row (call cat cells b p row)) e (then gs b row .said) .1)
+        ⊎-elim (λ x. inl (x .0)) (λ x. inr x) (subst (Said cat cells a c p b row (call cat cells b p row)) e (then gs b row .said) .1)
 
     at-once : (b : ℕ) (row : List ℕ) → cat .m ≤ length row → Closes (call cat cells b q row .says) × (call cat cells b q row .trials ≡ 0)
     at-once b row h = by (ℕ-discrete (q .taken) (q .store .found))
       where
         w : call cat cells b q row ≡ work cat cells b q row
-        w = call-work cat cells L c b q row (o .sound) h
+        w = call-work cat cells a L c b q row (o .sound) h
 
         by : Dec (q .taken ≡ q .store .found) → Closes (call cat cells b q row .says) × (call cat cells b q row .trials ≡ 0)
         by (yes f) = rw (w ∙ work-ends cat cells row b q (o .next) f) (inr refl, refl)
         by (no f) =
-            let (live, l) = live-set cat cells c q (o .sound) f in
-            rw (w ∙ work-hands cat cells row b q (o .next) f (named-at cat cells L c q live (q .taken) l)) (inl refl, refl)
+            let (live, l) = live-set cat cells a c q (o .sound) f in
+            rw (w ∙ work-hands cat cells row b q (o .next) f (named-at cat cells a L c q live (q .taken) l)) (inl refl, refl)
 
     -- From p, where a set was just handed out.
-    gap-from : (p : State) → Sound cat cells c p → p .next ≡ 0 → (gs : List Given) (b : Given)
+    gap-from : (p : State) → Sound cat cells a c p → p .next ≡ 0 → (gs : List Given) (b : Given)
         → ((s : Called) → List·Memᴰ s (run cat cells gs p) → Closes (s .says) → ⊥) → Closes (one cat cells b (ended cat cells gs p) .says)
         → Gap cat cells (run cat cells (gs ++ (b ∷ [])) p)
     gap-from p x z gs b f l =
@@ -138,76 +144,106 @@ module _ (cat : Catalogue) (cells : List ℕ) (L : Lawful cat (length cells)) wh
         r = run cat cells (gs ++ (b ∷ [])) p
 
         all : sum (λ s. s .trials) r ≡ total cat
-        all = omega (arith, z, gap-trials cat cells L c gs b p x f l)
+        all = omega (arith, z, gap-trials cat cells a L c gs b p x f l)
 
-        each-call : (v : State) (g : Given) → Sound cat cells c v → Went cat cells c v (g .budget) (g .row) (one cat cells g v)
-        each-call v g y = called cat cells L c (g .budget) v (g .row) y
+        each-call : (v : State) (g : Given) → Sound cat cells a c v → Went cat cells a c v (g .budget) (g .row) (one cat cells g v)
+        each-call v g y = called cat cells a L c (g .budget) v (g .row) y
 
-        bounded : (k : Called → ℕ) (d : ℕ) → ((v : State) (g : Given) → Sound cat cells c v → k (one cat cells g v) ≤ one cat cells g v .trials * d)
+        bounded : (k : Called → ℕ) (d : ℕ) → ((v : State) (g : Given) → Sound cat cells a c v → k (one cat cells g v) ≤ one cat cells g v .trials * d)
             → sum k r ≤ sum (λ s. s .trials) r * d
-        bounded k d h = sum-bounded cat cells L c k d h (gs ++ (b ∷ [])) p x
+        bounded k d h = sum-bounded cat cells a L c k d h (gs ++ (b ∷ [])) p x
 
-    gap : (es : List Given) (a : Given) (gs : List Given) (b : Given) → one cat cells a (ended cat cells es q) .says ≡ aSet
-        → ((s : Called) → List·Memᴰ s (run cat cells gs (one cat cells a (ended cat cells es q) .after)) → Closes (s .says) → ⊥)
-        → Closes (one cat cells b (ended cat cells gs (one cat cells a (ended cat cells es q) .after)) .says)
-        → Gap cat cells (run cat cells (gs ++ (b ∷ [])) (one cat cells a (ended cat cells es q) .after))
-    gap es a gs b e =
+    gap : (es : List Given) (x : Given) (gs : List Given) (b : Given) → one cat cells x (ended cat cells es q) .says ≡ aSet
+        → ((s : Called) → List·Memᴰ s (run cat cells gs (one cat cells x (ended cat cells es q) .after)) → Closes (s .says) → ⊥)
+        → Closes (one cat cells b (ended cat cells gs (one cat cells x (ended cat cells es q) .after)) .says)
+        → Gap cat cells (run cat cells (gs ++ (b ∷ [])) (one cat cells x (ended cat cells es q) .after))
+    gap es x gs b e =
         let p = ended cat cells es q in
-        let s = one cat cells a p in
-        let x = then es (a .budget) (a .row) in
-        let y : ToSet cat cells p s = subst (Said cat cells c p (a .budget) (a .row) s) e (x .said) in
-        gap-from (s .after) (x .sound) (y .next) gs b
+        let s = one cat cells x p in
+        let w = then es (x .budget) (x .row) in
+        let y : ToSet cat p s = subst (Said cat cells a c p (x .budget) (x .row) s) e (w .said) in
+        gap-from (s .after) (w .sound) (y .next) gs b
 
     records : (gs : List Given) (p : ℕ) → p < ended cat cells gs q .store .found
-        → (T : List ℕ) × Maximal (W cat cells) T × (keyAt (ended cat cells gs q) p ≡ keyOf bitsPerRow T)
+        → (T : List ℕ) × Sought (W cat cells) a T × (keyAt (ended cat cells gs q) p ≡ keyOf bitsPerRow T)
     records gs p l = by (at-end gs)
       where
-        by : Sound cat cells c (ended cat cells gs q) → (T : List ℕ) × Maximal (W cat cells) T × (keyAt (ended cat cells gs q) p ≡ keyOf bitsPerRow T)
-        by (inl g) = record-maximal cat cells L c (ended cat cells gs q) g p l
+        by : Sound cat cells a c (ended cat cells gs q) → (T : List ℕ) × Sought (W cat cells) a T × (keyAt (ended cat cells gs q) p ≡ keyOf bitsPerRow T)
+        by (inl g) = record-sought cat cells a L c (ended cat cells gs q) g p l
         by (inr g) = absurd (omega (arith, g .found))
 
-    full-more : (gs : List Given) → Answered (refused 12) (run cat cells gs q) → MoreThan (W cat cells) c
+    full-more : (gs : List Given) → Answered (refused 12) (run cat cells gs q) → MoreOf (Sought (W cat cells) a) c
     full-more gs (s, m, e) =
-        let (p, g, h, x) = each cat cells L c gs q (o .sound) s m in
-        ⊎-elim (λ y. y .1) (λ y. absurd (omega (arith, y .0))) (subst (Said cat cells c p (g .budget) (g .row) s) e (x .said) .1)
+        let (p, g, h, x) = each cat cells a L c gs q (o .sound) s m in
+        ⊎-elim (λ y. y .1) (λ y. absurd (omega (arith, y .0))) (subst (Said cat cells a c p (g .budget) (g .row) s) e (x .said) .1)
 
-    more-never : (gs : List Given) → MoreThan (W cat cells) c → Answered finished (run cat cells gs q) → ⊥
+    more-never : (gs : List Given) → MoreOf (Sought (W cat cells) a) c → Answered finished (run cat cells gs q) → ⊥
     more-never gs mo (s, m, e) =
-        let (p, g, h, x) = each cat cells L c gs q (o .sound) s m in
-        let y : ToEnd cat cells p s = subst (Said cat cells c p (g .budget) (g .row) s) e (x .said) in
-        end-no-more cat cells L c (s .after) (x .sound) (y .all) (y .next) mo
+        let (p, g, h, x) = each cat cells a L c gs q (o .sound) s m in
+        let y : ToEnd cat p s = subst (Said cat cells a c p (g .budget) (g .row) s) e (x .said) in
+        end-no-more cat cells a L c (s .after) (x .sound) (y .all) (y .next) mo
 
     drained : (gs : List Given) → Able cat gs → c * (total cat + 1) < length gs
         → Answered finished (run cat cells gs q) ⊎ Answered (refused 12) (run cat cells gs q)
-    drained gs p h = drain cat cells L c gs q (o .sound) p (rw (o .taken, o .next) (omega (arith, zero-mul (total cat + 1))))
+    drained gs p h = drain cat cells a L c gs q (o .sound) p (rw (o .taken, o .next) (omega (arith, zero-mul (total cat + 1))))
 
-    pub demand3 : Demand3 cat cells (call cat cells) c q
+    pub demand3 : Demand3 cat cells a (call cat cells) c q
     demand3 =
         record {
-          fit = λ gs. sound-fit cat cells c (ended cat cells gs q) (at-end gs);
+          fit = λ gs. sound-fit cat cells a c (ended cat cells gs q) (at-end gs);
           sound = refusals;
           first = at-once;
           between = gap;
           kept = λ gs. run-moves cat cells gs q .state;
-          split = λ gs a b row. call-split c a b (ended cat cells gs q) row (at-end gs);
+          split = λ gs i j row. call-split c i j (ended cat cells gs q) row (at-end gs);
           held = λ gs.
-              let h = run-held cat cells L c gs q (o .sound) in
+              let h = run-held cat cells a L c gs q (o .sound) in
               let p = ended cat cells gs q in
-              subst (Holds p) (h .list ∙ ap (listMoves (W cat cells) (made (run cat cells gs q))) (o .list)) (sound-holds cat cells c p (h .sound));
+              subst (Holds p) (h .list ∙ ap (listMoves (W cat cells) a (made (run cat cells gs q))) (o .list)) (sound-holds cat cells a c p (h .sound));
           records = records;
-          apart = λ gs. found-once cat cells L c (ended cat cells gs q) (at-end gs);
-          tested = λ gs. run-held cat cells L c gs q (o .sound) .tests ∙ ap (testsIn (W cat cells) (made (run cat cells gs q))) (o .list);
+          apart = λ gs. found-once cat cells a L c (ended cat cells gs q) (at-end gs);
+          tested = λ gs. run-held cat cells a L c gs q (o .sound) .tests ∙ ap (testsIn (W cat cells) a (made (run cat cells gs q))) (o .list);
           looked = λ gs. run-moves cat cells gs q .looks;
           full-more = full-more;
           more-never = more-never;
           full-exactly = λ gs p h. (full-more gs, λ mo. ⊎-elim (λ f. absurd (more-never gs mo f)) (λ f. f) (drained gs p h));
           drains = drained;
-          drains-fast = λ gs p h. drain-fast cat cells L c gs q (o .sound) p (omega (arith, o .taken));
+          drains-fast = λ gs p h. drain-fast cat cells a L c gs q (o .sound) p (omega (arith, o .taken));
         }
 
-pub demands : (cat : Catalogue) (cells : List ℕ) → Demands cat cells
-demands cat cells keys left right e =
-    let (L, o) = begins cat cells keys left right e in
+pub demands : (cat : Catalogue) (cells : List ℕ) (a : Asked) → Demands cat cells a
+demands cat cells a keys left right e =
+    let (L, o) = begins cat cells a keys left right e in
     let c = roomIn (storeIn keys left right 0) in
-    let q = opening cat cells keys left right .after in
-    (demand2 cat cells L c q o, demand3 cat cells L c q o)
+    let q = openingFor cat cells a keys left right .after in
+    (demand2 cat cells a L c q o, demand3 cat cells a L c q o)
+
+-- ---- the two streams
+
+module _ (cat : Catalogue) (cells : List ℕ) where
+  -- Document 01's: with `everySet`, what the demands call sought is `Maximal`, word for word.
+  pub every-drained : (k l r : List ℕ) → opening cat cells k l r .refusal ≡ 0 → (gs : List Given)
+      → Answered finished (runOf (call cat cells) gs (opening cat cells k l r .after))
+      → (T : List ℕ) → Maximal (worldOf cat cells) T → List·Memᴰ (keyOf bitsPerRow T) (handed (runOf (call cat cells) gs (opening cat cells k l r .after)))
+  every-drained k l r e gs = demands cat cells everySet k l r e .0 .every gs
+
+  -- #109: "hands out exactly the maximal sets holding it, each once".
+  pub record RowDrained (s : Place) (keys : List ℕ) : Type 0 where
+    pub once : Distinct keys
+    pub exactly : (T : List ℕ) → (Maximal (worldOf cat cells) T × (at T (s .table) ≡ s .row)) ↔ (List·Memᴰ (keyOf bitsPerRow T) keys × (setOf cat (keyOf bitsPerRow T) ≡ T))
+
+  pub row-drained : (s : Place) (k l r : List ℕ) → openingRow cat cells s k l r .refusal ≡ 0 → (gs : List Given)
+      → Answered finished (runOf (call cat cells) gs (openingRow cat cells s k l r .after))
+      → RowDrained s (handed (runOf (call cat cells) gs (openingRow cat cells s k l r .after)))
+  row-drained s k l r e gs f =
+      let d = demands cat cells (everyWith s) k l r e .0 in
+      record {
+        once = d .once gs;
+        exactly = λ T. (
+          λ x. (d .every gs f T x, d .named T (x .0)),
+          λ m.
+              let (U, x, z) = d .only gs (keyOf bitsPerRow T) (m .0) in
+              let q : U ≡ T = sym (d .named U (x .0)) ∙ ap (setOf cat) (sym z) ∙ m .1 in
+              subst (λ (X : List ℕ). Maximal (worldOf cat cells) X × (at X (s .table) ≡ s .row)) q x,
+        );
+      }

@@ -1,15 +1,19 @@
 -- Each promise is an equation with a definition, so two outcomes are equal to the same thing; of the stream's, part by part. Assumes nothing.
 use Prim.Native.Nat.{ℕ}
 use native.Mathlib.Omega.{arith}
-use mathlib.Core.Path.{_≡_, refl, sym, ap, _∙_}
+use mathlib.Core.Path.{_≡_, refl, sym, ap, ap₂, _∙_}
 use mathlib.Core.List.{List}
+use Rattle.disjunction.specs.Rule.{Place}
+use Rattle.disjunction.specs.Asked.{Asked, everySet, everyWith}
 use Rattle.machine.specs.Machine.{State, Called, Opened}
 use Rattle.stream.specs.declared.StreamRecord.{StreamRecord}
 use Rattle.stream.specs.declared.Answer.{Answer}
 use Rattle.stream.specs.declared.Answer.the-variants.{Set, Finished, Working, Refused}
 use Rattle.stream.specs.declared.OpenAnswer.{OpenAnswer}
 use Rattle.stream.specs.declared.StepAnswer.{StepAnswer}
-use Rattle.stream.specs.Promises.{stateOf, saysOf, calledOf, openedOf}
+use Rattle.stream.specs.declared.RowOpenAnswer.{RowOpenAnswer}
+use Rattle.stream.specs.declared.RowStepAnswer.{RowStepAnswer}
+use Rattle.stream.specs.Promises.{stateWith, saysOf, calledWith, calledOf, calledRow, openedWith, openedRow}
 use Rattle.harbour.specs.declared.NextAnswer.{NextAnswer}
 use Rattle.harbour.specs.Answers.{withRecord}
 use Rattle.image.specs.declared.Loaded.{Loaded}
@@ -35,8 +39,9 @@ writes-one cat cells lent r r′ after after′ l l′ =
 -- ---- the stream
 
 -- A state tells its record and its lists.
-state-one : (s s′ : StreamRecord) (ks ls rs ks′ ls′ rs′ : List ℕ) → stateOf s ks ls rs ≡ stateOf s′ ks′ ls′ rs′ → (s ≡ s′) × (ks ≡ ks′) × (ls ≡ ls′) × (rs ≡ rs′)
-state-one s s′ ks ls rs ks′ ls′ rs′ e =
+state-one : (v v′ : Asked) (s s′ : StreamRecord) (ks ls rs ks′ ls′ rs′ : List ℕ) → stateWith v s ks ls rs ≡ stateWith v′ s′ ks′ ls′ rs′
+    → (s ≡ s′) × (ks ≡ ks′) × (ls ≡ ls′) × (rs ≡ rs′)
+state-one v v′ s s′ ks ls rs ks′ ls′ rs′ e =
     let f : s .found ≡ s′ .found = ap (λ (q : State). q .store .found) e in
     let t : s .taken ≡ s′ .taken = ap (λ (q : State). q .taken) e in
     let n : s .«next_row» ≡ s′ .«next_row» = ap (λ (q : State). q .next) e in
@@ -49,11 +54,12 @@ state-one s s′ ks ls rs ks′ ls′ rs′ e =
     same f t n =
         ap (λ (x : ℕ). made x (s .taken) (s .«next_row»)) f ∙ ap (λ (x : ℕ). made (s′ .found) x (s .«next_row»)) t ∙ ap (made (s′ .found) (s′ .taken)) n
 
-opens-one : (r r′ : OpenAnswer) (ks ls rs ks′ ls′ rs′ : List ℕ) → openedOf r ks ls rs ≡ openedOf r′ ks′ ls′ rs′ → (r ≡ r′) × (ks ≡ ks′) × (ls ≡ ls′) × (rs ≡ rs′)
-opens-one r r′ ks ls rs ks′ ls′ rs′ e =
+opens-one : (v v′ : Asked) (r r′ : OpenAnswer) (ks ls rs ks′ ls′ rs′ : List ℕ) → openedWith v r ks ls rs ≡ openedWith v′ r′ ks′ ls′ rs′
+    → (r ≡ r′) × (ks ≡ ks′) × (ls ≡ ls′) × (rs ≡ rs′)
+opens-one v v′ r r′ ks ls rs ks′ ls′ rs′ e =
     let k : r .refusal ≡ r′ .refusal = ap (λ (o : Opened). o .refusal) e in
     let t : r .tests ≡ r′ .tests = ap (λ (o : Opened). o .tests) e in
-    let q = state-one (r .stream) (r′ .stream) ks ls rs ks′ ls′ rs′ (ap (λ (o : Opened). o .after) e) in
+    let q = state-one v v′ (r .stream) (r′ .stream) ks ls rs ks′ ls′ rs′ (ap (λ (o : Opened). o .after) e) in
     (same k t (q .0), q .1, q .2, q .3)
   where
     made : ℕ → ℕ → StreamRecord → OpenAnswer
@@ -82,15 +88,15 @@ says-one (Refused k) Finished e = absurd (let z : _≡_ {A = ℕ} 0 1 = cc in om
 says-one (Refused k) Working e = absurd (let z : _≡_ {A = ℕ} 0 1 = cc in omega arith)
 says-one (Refused k) (Refused j) e = let q : k ≡ j = cc in ap (λ (x : ℕ). Refused x) q
 
-steps-one : (r r′ : StepAnswer) (ks ls rs w ks′ ls′ rs′ w′ : List ℕ) → calledOf r ks ls rs w ≡ calledOf r′ ks′ ls′ rs′ w′
+steps-one : (v v′ : Asked) (r r′ : StepAnswer) (ks ls rs w ks′ ls′ rs′ w′ : List ℕ) → calledWith v r ks ls rs w ≡ calledWith v′ r′ ks′ ls′ rs′ w′
     → (r ≡ r′) × (ks ≡ ks′) × (ls ≡ ls′) × (rs ≡ rs′) × (w ≡ w′)
-steps-one r r′ ks ls rs w ks′ ls′ rs′ w′ e =
+steps-one v v′ r r′ ks ls rs w ks′ ls′ rs′ w′ e =
     let a : r .answer ≡ r′ .answer = says-one (r .answer) (r′ .answer) (ap (λ (c : Called). c .says) e) in
     let k : r .key ≡ r′ .key = ap (λ (c : Called). c .key) e in
     let n : r .trials ≡ r′ .trials = ap (λ (c : Called). c .trials) e in
     let t : r .tests ≡ r′ .tests = ap (λ (c : Called). c .tests) e in
     let l : r .looks ≡ r′ .looks = ap (λ (c : Called). c .looks) e in
-    let q = state-one (r .stream) (r′ .stream) ks ls rs ks′ ls′ rs′ (ap (λ (c : Called). c .after) e) in
+    let q = state-one v v′ (r .stream) (r′ .stream) ks ls rs ks′ ls′ rs′ (ap (λ (c : Called). c .after) e) in
     (same a k n t l (q .0), q .1, q .2, q .3, ap (λ (c : Called). c .row) e)
   where
     made : Answer → ℕ → ℕ → ℕ → ℕ → StreamRecord → StepAnswer
@@ -109,19 +115,49 @@ steps-one r r′ ks ls rs w ks′ ls′ rs′ w′ e =
 nexts-one : (r r′ : NextAnswer) (q q′ : StreamRecord) (ks ls rs w ks′ ls′ rs′ w′ : List ℕ) → calledOf (withRecord r q) ks ls rs w ≡ calledOf (withRecord r′ q′) ks′ ls′ rs′ w′
     → (r ≡ r′) × (q ≡ q′) × (ks ≡ ks′) × (ls ≡ ls′) × (rs ≡ rs′) × (w ≡ w′)
 nexts-one r r′ q q′ ks ls rs w ks′ ls′ rs′ w′ e =
-    let t = steps-one (withRecord r q) (withRecord r′ q′) ks ls rs w ks′ ls′ rs′ w′ e in (ap answer (t .0), ap (λ (x : StepAnswer). x .stream) (t .0), t .1, t .2, t .3, t .4)
+    let t = steps-one everySet everySet (withRecord r q) (withRecord r′ q′) ks ls rs w ks′ ls′ rs′ w′ e in (ap answer (t .0), ap (λ (x : StepAnswer). x .stream) (t .0), t .1, t .2, t .3, t .4)
   where
     answer : StepAnswer → NextAnswer
     answer x = record { answer = x .answer; key = x .key; trials = x .trials; tests = x .tests; looks = x .looks }
+
+-- What is asked for tells its row.
+row-one : (t r t′ r′ : ℕ) → everyWith (record { table = t; row = r }) ≡ everyWith (record { table = t′; row = r′ }) → (t ≡ t′) × (r ≡ r′)
+row-one t r t′ r′ e = (ap (λ (a : Asked). row a .table) e, ap (λ (a : Asked). row a .row) e)
+  where
+    row : Asked → Place
+    row everySet = record { table = 0; row = 0 }
+    row (everyWith s) = s
+
+row-opens-one : (r r′ : RowOpenAnswer) (ks ls rs ks′ ls′ rs′ : List ℕ) → openedRow r ks ls rs ≡ openedRow r′ ks′ ls′ rs′
+    → (r ≡ r′) × (ks ≡ ks′) × (ls ≡ ls′) × (rs ≡ rs′)
+row-opens-one r r′ ks ls rs ks′ ls′ rs′ e =
+    let q = opens-one _ _ (r .opened) (r′ .opened) ks ls rs ks′ ls′ rs′ e in
+    let (t, n) = row-one (r .table) (r .row) (r′ .table) (r′ .row) (ap (λ (o : Opened). o .after .asked) e) in
+    (ap (λ (o : OpenAnswer). made o (r .table) (r .row)) (q .0) ∙ ap₂ (made (r′ .opened)) t n, q .1, q .2, q .3)
+  where
+    made : OpenAnswer → ℕ → ℕ → RowOpenAnswer
+    made o t n = record { opened = o; table = t; row = n }
+
+row-steps-one : (r r′ : RowStepAnswer) (ks ls rs w ks′ ls′ rs′ w′ : List ℕ) → calledRow r ks ls rs w ≡ calledRow r′ ks′ ls′ rs′ w′
+    → (r ≡ r′) × (ks ≡ ks′) × (ls ≡ ls′) × (rs ≡ rs′) × (w ≡ w′)
+row-steps-one r r′ ks ls rs w ks′ ls′ rs′ w′ e =
+    let q = steps-one _ _ (r .step) (r′ .step) ks ls rs w ks′ ls′ rs′ w′ e in
+    let (t, n) = row-one (r .table) (r .row) (r′ .table) (r′ .row) (ap (λ (c : Called). c .after .asked) e) in
+    (ap (λ (o : StepAnswer). made o (r .table) (r .row)) (q .0) ∙ ap₂ (made (r′ .step)) t n, q .1, q .2, q .3, q .4)
+  where
+    made : StepAnswer → ℕ → ℕ → RowStepAnswer
+    made o t n = record { step = o; table = t; row = n }
 
 pub determined : OneOutcome
 determined =
     record {
       load = loads-one;
       write = writes-one;
-      «open» = λ cat cells keys left right r r′ ks ls rs ks′ ls′ rs′ e e′. opens-one r r′ ks ls rs ks′ ls′ rs′ (e ∙ sym e′);
-      step = λ cat cells s keys left right row b r r′ ks ls rs w ks′ ls′ rs′ w′ e e′. steps-one r r′ ks ls rs w ks′ ls′ rs′ w′ (e ∙ sym e′);
+      «open» = λ cat cells keys left right r r′ ks ls rs ks′ ls′ rs′ e e′. opens-one everySet everySet r r′ ks ls rs ks′ ls′ rs′ (e ∙ sym e′);
+      step = λ cat cells s keys left right row b r r′ ks ls rs w ks′ ls′ rs′ w′ e e′. steps-one everySet everySet r r′ ks ls rs w ks′ ls′ rs′ w′ (e ∙ sym e′);
       next = λ cat cells s keys left right row b r r′ q q′ ks ls rs w ks′ ls′ rs′ w′ e e′. nexts-one r r′ q q′ ks ls rs w ks′ ls′ rs′ w′ (e ∙ sym e′);
+      «open_row» = λ cat cells s keys left right r r′ ks ls rs ks′ ls′ rs′ e e′. row-opens-one r r′ ks ls rs ks′ ls′ rs′ (e ∙ sym e′);
+      «step_row» = λ cat cells s keys left right row b r r′ ks ls rs w ks′ ls′ rs′ w′ e e′. row-steps-one r r′ ks ls rs w ks′ ls′ rs′ w′ (e ∙ sym e′);
       covers = λ first second r r′ e e′. e ∙ sym e′;
       check = λ s r r′ e e′. e ∙ sym e′;
     }

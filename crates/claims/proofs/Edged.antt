@@ -18,12 +18,12 @@ use Rattle.store.specs.Store.{linkOf, searchOf, filed, added, answerOf, storeAf
 use Rattle.image.specs.Reading.{runEnd, codes, rowsFrom}
 use Rattle.image.specs.Load.{fieldAt, countAt, tableAt, tablesFrom, scanOf, tablesCodes}
 use Rattle.image.proofs.Edges.{number-edges, image-edges}
-use Rattle.machine.specs.Machine.{placed, offered, trialOn, handOut, dueOr, work, unfit, callFault, call, openFault, begun, opening}
+use Rattle.machine.specs.Machine.{placed, offered, trialOn, handOut, dueOr, work, unfit, callFault, call, openFault, begun, openingFor}
 use Rattle.machine.specs.Runs.{runOf, handed}
 use Rattle.claims.specs.Edges.{callsOn, saysIn, Edges}
 
 pub edges : Edges
-unfolding callsOn saysIn handed runOf call callFault work unfit dueOr handOut trialOn offered placed answerOf storeAfter added Store.named searchOf Store.walk linkOf opening openFault begun catalogueFault sizeFault tablesFault tableFault badScheme countFault firstCell rowStart rowsBefore named missing beyond rowsIn rowOf keyOf filed bitOf ones onesIn touchesIn fitsIn sharing matching same trial start piece joins membersBelow dropped stays tab extension grow walk rowTest near agrees absent member rowsBelow rowsTo alone any all padded codeBelow gives decode below runEnd codes rowsFrom fieldAt countAt tableAt tablesFrom scanOf tablesCodes
+unfolding callsOn saysIn handed runOf call callFault work unfit dueOr handOut trialOn offered placed answerOf storeAfter added Store.named searchOf Store.walk linkOf openingFor openFault begun catalogueFault sizeFault tablesFault tableFault badScheme countFault firstCell rowStart rowsBefore named missing beyond rowsIn rowOf keyOf filed bitOf ones onesIn touchesIn fitsIn sharing matching same trial start piece joins membersBelow dropped stays tab extension grow walk rowTest near agrees absent member rowsBelow rowsTo alone any all padded codeBelow gives decode below runEnd codes rowsFrom fieldAt countAt tableAt tablesFrom scanOf tablesCodes
 edges =
     record {
       numbers = number-edges;

@@ -4,12 +4,13 @@ use mathlib.Core.Path.{_≡_, refl, ap, _∙_}
 use mathlib.Core.List.{List}
 use lib.ListN.{length}
 use Rattle.tables.specs.declared.Catalogue.{Catalogue}
+use Rattle.disjunction.specs.Asked.{Asked}
 use Rattle.store.specs.Store.{storeIn}
-use Rattle.machine.specs.Machine.{State, Says, aSet, finished, working, refused, Called, callFault, unlessMet, work, call, Opened, openFault, opening}
+use Rattle.machine.specs.Machine.{State, Says, aSet, finished, working, refused, Called, callFault, unlessMet, work, call, Opened, openFault, openingFor}
 use Rattle.machine.proofs.WorkLaws.{RowBy, work-row}
 use Rattle.machine.proofs.RefusalLaws.{call-refused, open-catalogue, opening-refused, opening-says}
 use Rattle.claims.specs.Demands.{Demand1}
-use Rattle.claims.proofs.Opens.{opens-iff, full-iff}
+use Rattle.claims.proofs.Opens.{opens-iff, stray-met-iff, full-iff}
 use Rattle.claims.proofs.CallExactly.{at-work}
 
 module _ (cat : Catalogue) (cells row : List ℕ) where
@@ -27,14 +28,15 @@ module _ (cat : Catalogue) (cells row : List ℕ) where
   unwritten s working h n = h
   unwritten s (refused r) h n = h
 
-pub demand1 : (cat : Catalogue) (cells : List ℕ) → Demand1 cat cells (opening cat cells) (call cat cells)
-demand1 cat cells =
+pub demand1 : (cat : Catalogue) (cells : List ℕ) (a : Asked) → Demand1 cat cells a (openingFor cat cells a) (call cat cells)
+demand1 cat cells a =
     record {
-      opens = opens-iff cat cells;
-      faults = λ k l r h. opening-says cat cells k l r ∙ open-catalogue cat (length cells) (storeIn k l r 0) h;
-      full = full-iff cat cells;
+      opens = opens-iff cat cells a;
+      faults = λ k l r h. opening-says cat cells a k l r ∙ open-catalogue cat (length cells) a (storeIn k l r 0) h;
+      strays = stray-met-iff cat cells a;
+      full = full-iff cat cells a;
       zeroed = λ k l r h.
-          let e = opening-refused cat cells k l r (openFault cat (length cells) (storeIn k l r 0)) refl (λ z. h (opening-says cat cells k l r ∙ z)) in
+          let e = opening-refused cat cells a k l r (openFault cat (length cells) a (storeIn k l r 0)) refl (λ z. h (opening-says cat cells a k l r ∙ z)) in
           (ap (λ (x : Opened). x .after) e, ap (λ (x : Opened). x .tests) e);
       refuses = λ b q row h. call-refused cat cells b q row (callFault cat (length cells) q row) refl h;
       works = at-work cat cells;

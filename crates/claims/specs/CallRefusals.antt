@@ -10,8 +10,9 @@ use Rattle.tables.specs.declared.Catalogue.{Catalogue}
 use Rattle.tables.specs.Catalogues.{total}
 use Rattle.tables.specs.Checks.{Lawful, catalogueFault}
 use Rattle.rows.specs.Named.{named}
+use Rattle.disjunction.specs.Asked.{Asked}
 use Rattle.store.specs.Store.{storeIn, roomIn}
-use Rattle.machine.specs.Machine.{State, keyDue, done, full, damaged, trialOn, refused, Fit, call, opening}
+use Rattle.machine.specs.Machine.{State, keyDue, done, full, damaged, trialOn, refused, Askable, Fit, call, openingFor}
 
 module _ (cat : Catalogue) (cells : List ℕ) where
   -- "If next row is N", a set is handed out or the end told; else a trial is due.
@@ -41,11 +42,12 @@ module _ (cat : Catalogue) (cells : List ℕ) where
         ↔ (Lawful cat (length cells) × Fit cat q × (cat .m ≤ length row)
         × (((a : ℕ) × (p : State) × WorksTo b q (suc a) p × TrialDue p × (trialOn cat cells p ≡ damaged)) ⊎ ((a : ℕ) × (p : State) × WorksTo b q a p × LostDue p)))
 
-  -- Open: "checks the catalogue .., then 12 if N is above 0 and the store has no record".
-  pub record OpenExact (keys left right : List ℕ) : Type 0 where
+  -- Open: "checks the catalogue .., then 12 if N is above 0 and the store has no record"; between them 19, of a stream that is asked for a row.
+  pub record OpenExact (asked : Asked) (keys left right : List ℕ) : Type 0 where
     pub catalogue : (k : ℕ) → (catalogueFault cat (length cells) ≡ 0 → ⊥)
-        → (opening cat cells keys left right .refusal ≡ k) ↔ (catalogueFault cat (length cells) ≡ k)
-    pub refusal-12 : (opening cat cells keys left right .refusal ≡ 12)
-        ↔ (Lawful cat (length cells) × (0 < total cat) × (roomIn (storeIn keys left right 0) ≡ 0))
-    pub none : (opening cat cells keys left right .refusal ≡ 0)
-        ↔ (Lawful cat (length cells) × (0 < total cat → 0 < roomIn (storeIn keys left right 0)))
+        → (openingFor cat cells asked keys left right .refusal ≡ k) ↔ (catalogueFault cat (length cells) ≡ k)
+    pub refusal-19 : (openingFor cat cells asked keys left right .refusal ≡ 19) ↔ (Lawful cat (length cells) × (Askable cat asked → ⊥))
+    pub refusal-12 : (openingFor cat cells asked keys left right .refusal ≡ 12)
+        ↔ (Lawful cat (length cells) × Askable cat asked × (0 < total cat) × (roomIn (storeIn keys left right 0) ≡ 0))
+    pub none : (openingFor cat cells asked keys left right .refusal ≡ 0)
+        ↔ (Lawful cat (length cells) × Askable cat asked × (0 < total cat → 0 < roomIn (storeIn keys left right 0)))

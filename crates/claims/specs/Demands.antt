@@ -1,5 +1,5 @@
 -- The demands on a stream, stated over any stream: `begin` is its open, `step` its call, and a list of `Given` is a way to call it, so that a fraud is a
--- stream that is shown not to meet them (proofs/Frauds). That the stream of document 01 meets them stands in proofs/Demanded. Assumes nothing.
+-- stream that is shown not to meet them (proofs/Frauds). `asked` is what it is asked for: every set (document 01), or those that hold one row (#109). That the stream of document 01 meets them stands in proofs/Demanded. Assumes nothing.
 use Prim.Native.Nat.{ℕ, _+_, _*_, _≤_, _<_}
 use mathlib.Core.Path.{_≡_}
 use mathlib.Core.Logic.{_⊎_, _↔_}
@@ -10,30 +10,32 @@ use Rattle.keys.specs.Keys.{bitsPerRow, keyOf}
 use Rattle.tables.specs.declared.Catalogue.{Catalogue}
 use Rattle.tables.specs.Catalogues.{total}
 use Rattle.tables.specs.Checks.{Lawful, catalogueFault}
-use Rattle.disjunction.specs.Sets.{Maximal, MoreThan}
+use Rattle.disjunction.specs.Sets.{MoreOf, Maximal}
+use Rattle.disjunction.specs.Asked.{Asked, Sought}
 use Rattle.disjunction.specs.Cells.{Embedding}
 use Rattle.disjunction.specs.Keeping as Sets
 use Rattle.disjunction.specs.Keeping.{listOpen, listMoves, testsIn}
 use Rattle.rows.specs.World.{cellsIn, worldOf, setOf}
 use Rattle.store.specs.Store.{Store, storeIn, roomIn}
 use Rattle.store.specs.Store as Store
-use Rattle.machine.specs.Machine.{State, keyAt, deepest, Says, aSet, finished, working, refused, Called, answer, Fit, callFault, call, zeros, Opened, opening}
+use Rattle.machine.specs.Machine.{State, keyAt, deepest, Says, aSet, finished, working, refused, Called, answer, Askable, Fit, callFault, call, zeros, Opened, openingFor}
 use Rattle.machine.specs.Runs.{Given, runOf, endedOf, handed, sum, moves, looksIn}
 
 -- ---- demand 1: the refusals, "by the exact conditions above"
 
 -- Of any stream whose open is `begin` and whose call is `step`, on these tables.
-pub record Demand1 (cat : Catalogue) (cells : List ℕ) (begin : List ℕ → List ℕ → List ℕ → Opened) (step : ℕ → State → List ℕ → Called) : Type 0 where
-  -- Open refuses nothing exactly where the catalogue has no fault and the store, if there is a row, a record;
+pub record Demand1 (cat : Catalogue) (cells : List ℕ) (asked : Asked) (begin : List ℕ → List ℕ → List ℕ → Opened) (step : ℕ → State → List ℕ → Called) : Type 0 where
+  -- Open refuses nothing exactly where the catalogue has no fault, the row asked for is there, and the store, if there is a row, has a record;
   pub opens : (keys left right : List ℕ)
-      → (begin keys left right .refusal ≡ 0) ↔ (Lawful cat (length cells) × (0 < total cat → 0 < roomIn (storeIn keys left right 0)))
-  -- else its refusal is the catalogue's, or 12 where only the record is missing.
+      → (begin keys left right .refusal ≡ 0) ↔ (Lawful cat (length cells) × Askable cat asked × (0 < total cat → 0 < roomIn (storeIn keys left right 0)))
+  -- else its refusal is the catalogue's, or 19 where the row is not there, or 12 where only the record is missing.
   pub faults : (keys left right : List ℕ) → (catalogueFault cat (length cells) ≡ 0 → ⊥) → begin keys left right .refusal ≡ catalogueFault cat (length cells)
+  pub strays : (keys left right : List ℕ) → Lawful cat (length cells) → (begin keys left right .refusal ≡ 19) ↔ (Askable cat asked → ⊥)
   pub full : (keys left right : List ℕ) → Lawful cat (length cells)
-      → (begin keys left right .refusal ≡ 12) ↔ ((0 < total cat) × (roomIn (storeIn keys left right 0) ≡ 0))
+      → (begin keys left right .refusal ≡ 12) ↔ (Askable cat asked × (0 < total cat) × (roomIn (storeIn keys left right 0) ≡ 0))
   -- "Refused, it gives a record of zeros and writes nothing."
   pub zeroed : (keys left right : List ℕ) → (begin keys left right .refusal ≡ 0 → ⊥)
-      → (begin keys left right .after ≡ zeros keys left right) × (begin keys left right .tests ≡ 0)
+      → (begin keys left right .after ≡ zeros asked keys left right) × (begin keys left right .tests ≡ 0)
   -- A call, whatever the record and the store: "checks the catalogue as open does, then 13, then 11. These change nothing"; "the counts are 0";
   pub refuses : (b : ℕ) (q : State) (row : List ℕ) → (callFault cat (length cells) q row ≡ 0 → ⊥)
       → step b q row ≡ answer (refused (callFault cat (length cells) q row)) q row
@@ -98,16 +100,23 @@ goesOn finished s u = s
 goesOn (refused r) s u = s
 
 module _ (cat : Catalogue) (cells : List ℕ) where
+  -- "Exactly N trials, at most n x N x N row tests and N x (8n + 1) store looks."
+  pub record Gap (l : List Called) : Type 0 where
+    pub trials : sum (λ s. s .trials) l ≡ total cat
+    pub tests : sum (λ s. s .tests) l ≤ cat .n * total cat * total cat
+    pub looks : sum (λ s. s .looks) l ≤ total cat * (deepest cat + 1)
+
+module _ (cat : Catalogue) (cells : List ℕ) (asked : Asked) where
   -- ---- demand 2
 
   -- Of a stream whose call is `step`, from the state q that open gave; the calls are a list of `Given`.
   pub record Demand2 (step : ℕ → State → List ℕ → Called) (q : State) : Type 0 where
     -- "Cut short, it has handed out only such sets,"
-    pub only : (gs : List Given) (k : ℕ) → List·Memᴰ k (handed (runOf step gs q)) → (T : List ℕ) × Maximal (worldOf cat cells) T × (k ≡ keyOf bitsPerRow T)
+    pub only : (gs : List Given) (k : ℕ) → List·Memᴰ k (handed (runOf step gs q)) → (T : List ℕ) × Sought (worldOf cat cells) asked T × (k ≡ keyOf bitsPerRow T)
     -- "none twice."
     pub once : (gs : List Given) → Distinct (handed (runOf step gs q))
-    -- "Drained, it hands out exactly the maximal join-consistent connected row sets, each once": with the two above, every one of them
-    pub every : (gs : List Given) → Answered finished (runOf step gs q) → (T : List ℕ) → Maximal (worldOf cat cells) T
+    -- "Drained, it hands out exactly the maximal join-consistent connected row sets, each once": with the two above, every one that is asked for
+    pub every : (gs : List Given) → Answered finished (runOf step gs q) → (T : List ℕ) → Sought (worldOf cat cells) asked T
         → List·Memᴰ (keyOf bitsPerRow T) (handed (runOf step gs q))
     -- (a key tells its set)
     pub named : (T : List ℕ) → Maximal (worldOf cat cells) T → setOf cat (keyOf bitsPerRow T) ≡ T
@@ -116,12 +125,6 @@ module _ (cat : Catalogue) (cells : List ℕ) where
         → Padded cat cells (step b (endedOf step gs q) row .key) row (step b (endedOf step gs q) row .row)
 
   -- ---- demand 3
-
-  -- "Exactly N trials, at most n x N x N row tests and N x (8n + 1) store looks."
-  pub record Gap (l : List Called) : Type 0 where
-    pub trials : sum (λ s. s .trials) l ≡ total cat
-    pub tests : sum (λ s. s .tests) l ≤ cat .n * total cat * total cat
-    pub looks : sum (λ s. s .looks) l ≤ total cat * (deepest cat + 1)
 
   -- c is how many records the store has room for.
   pub record Demand3 (step : ℕ → State → List ℕ → Called) (c : ℕ) (q : State) : Type 0 where
@@ -136,28 +139,28 @@ module _ (cat : Catalogue) (cells : List ℕ) where
         → step (a .budget) (endedOf step es q) (a .row) .says ≡ aSet
         → ((s : Called) → List·Memᴰ s (runOf step gs (step (a .budget) (endedOf step es q) (a .row) .after)) → Closes (s .says) → ⊥)
         → Closes (step (b .budget) (endedOf step gs (step (a .budget) (endedOf step es q) (a .row) .after)) (b .row) .says)
-        → Gap (runOf step (gs ++ (b ∷ [])) (step (a .budget) (endedOf step es q) (a .row) .after))
+        → Gap cat cells (runOf step (gs ++ (b ∷ [])) (step (a .budget) (endedOf step es q) (a .row) .after))
     -- "After every trial the store holds what the rule says": the rule's steps decide it, not the budgets; a call of a + b is one of a, then one of b;
     pub kept : (gs : List Given) → endedOf step gs q ≡ moves cat cells (made (runOf step gs q)) q
     pub split : (gs : List Given) (a b : ℕ) (row : List ℕ)
         → step (a + b) (endedOf step gs q) row
         ≡ goesOn (step a (endedOf step gs q) row .says) (step a (endedOf step gs q) row) (step b (step a (endedOf step gs q) row .after) row)
     -- on sets alone: it holds those that the rule finds, in the order in which it finds them,
-    pub held : (gs : List Given) → Holds (endedOf step gs q) (listMoves (worldOf cat cells) (made (runOf step gs q)) (listOpen (worldOf cat cells)))
-    -- each of them maximal, none twice.
+    pub held : (gs : List Given) → Holds (endedOf step gs q) (listMoves (worldOf cat cells) asked (made (runOf step gs q)) (listOpen (worldOf cat cells) asked))
+    -- each of them asked for, none twice.
     pub records : (gs : List Given) (p : ℕ) → p < endedOf step gs q .store .found
-        → (T : List ℕ) × Maximal (worldOf cat cells) T × (keyAt (endedOf step gs q) p ≡ keyOf bitsPerRow T)
+        → (T : List ℕ) × Sought (worldOf cat cells) asked T × (keyAt (endedOf step gs q) p ≡ keyOf bitsPerRow T)
     pub apart : (gs : List Given) (i j : ℕ) → i < endedOf step gs q .store .found → j < endedOf step gs q .store .found
         → keyAt (endedOf step gs q) i ≡ keyAt (endedOf step gs q) j → i ≡ j
     -- "One invents its counts: they equal the rule's row tests and looks."
     pub tested : (gs : List Given)
-        → sum (λ s. s .tests) (runOf step gs q) ≡ testsIn (worldOf cat cells) (made (runOf step gs q)) (listOpen (worldOf cat cells))
+        → sum (λ s. s .tests) (runOf step gs q) ≡ testsIn (worldOf cat cells) asked (made (runOf step gs q)) (listOpen (worldOf cat cells) asked)
     pub looked : (gs : List Given) → sum (λ s. s .looks) (runOf step gs q) ≡ looksIn cat cells (made (runOf step gs q)) q
     -- "With a store of fixed size, a drain meets 'full' exactly when there are more maximal sets than records."
-    pub full-more : (gs : List Given) → Answered (refused 12) (runOf step gs q) → MoreThan (worldOf cat cells) c
-    pub more-never : (gs : List Given) → MoreThan (worldOf cat cells) c → Answered finished (runOf step gs q) → ⊥
+    pub full-more : (gs : List Given) → Answered (refused 12) (runOf step gs q) → MoreOf (Sought (worldOf cat cells) asked) c
+    pub more-never : (gs : List Given) → MoreOf (Sought (worldOf cat cells) asked) c → Answered finished (runOf step gs q) → ⊥
     pub full-exactly : (gs : List Given) → Able cat gs → c * (total cat + 1) < length gs
-        → Answered (refused 12) (runOf step gs q) ↔ MoreThan (worldOf cat cells) c
+        → Answered (refused 12) (runOf step gs q) ↔ MoreOf (Sought (worldOf cat cells) asked) c
     -- (a drain ends: so many calls that can get on are enough)
     pub drains : (gs : List Given) → Able cat gs → c * (total cat + 1) < length gs
         → Answered finished (runOf step gs q) ⊎ Answered (refused 12) (runOf step gs q)
@@ -204,6 +207,7 @@ pub record Copy (q r : State) : Type 0 where
   pub store : Store.Copy (q .store) (r .store)
   pub taken : r .taken ≡ q .taken
   pub next : r .next ≡ q .next
+  pub asked : r .asked ≡ q .asked
 
 -- "After 12 the caller may copy the records to a longer store and go on", as if it had been that long from the start. q is what open gave on the short
 -- store, q' what it gave on the long one, r the copy after the calls gs.
@@ -218,25 +222,27 @@ pub record Longer (step : ℕ → State → List ℕ → Called) (q q' : State) 
       → (r : State) → Copy (endedOf step gs q) r → roomIn (r .store) ≡ roomIn (q' .store)
       → (hs : List Given) → Copy (endedOf step hs (endedOf step es q')) (endedOf step hs r)
 
--- ---- all together, of the stream of document 01
+-- ---- all together, of the stream of document 01 and of that of one row
 
-module _ (cat : Catalogue) (cells : List ℕ) where
+module _ (cat : Catalogue) (cells : List ℕ) (asked : Asked) where
   -- Wherever open gives no refusal, demands 2 and 3 hold of the calls after it.
   abbrev pub Demands : Type 0
   Demands =
-      (keys left right : List ℕ) → opening cat cells keys left right .refusal ≡ 0
-      → Demand2 cat cells (call cat cells) (opening cat cells keys left right .after)
-      × Demand3 cat cells (call cat cells) (roomIn (storeIn keys left right 0)) (opening cat cells keys left right .after)
+      (keys left right : List ℕ) → openingFor cat cells asked keys left right .refusal ≡ 0
+      → Demand2 cat cells asked (call cat cells) (openingFor cat cells asked keys left right .after)
+      × Demand3 cat cells asked (call cat cells) (roomIn (storeIn keys left right 0)) (openingFor cat cells asked keys left right .after)
 
-  -- Open meets 12 exactly where there are more maximal sets than records, which are none.
+  -- Open meets 12 exactly where there are more sets asked for than records, which are none.
   abbrev pub OpenFull : Type 0
   OpenFull =
-      (keys left right : List ℕ) → Lawful cat (length cells)
-      → (opening cat cells keys left right .refusal ≡ 12) ↔ ((roomIn (storeIn keys left right 0) ≡ 0) × MoreThan (worldOf cat cells) 0)
+      (keys left right : List ℕ) → Lawful cat (length cells) → Askable cat asked
+      → (openingFor cat cells asked keys left right .refusal ≡ 12)
+      ↔ ((roomIn (storeIn keys left right 0) ≡ 0) × MoreOf (Sought (worldOf cat cells) asked) 0)
 
   -- Any two stores that open takes, the second at least as long as the first.
   abbrev pub Longers : Type 0
   Longers =
-      (keys left right keys' left' right' : List ℕ) → opening cat cells keys left right .refusal ≡ 0 → opening cat cells keys' left' right' .refusal ≡ 0
+      (keys left right keys' left' right' : List ℕ) → openingFor cat cells asked keys left right .refusal ≡ 0
+      → openingFor cat cells asked keys' left' right' .refusal ≡ 0
       → roomIn (storeIn keys left right 0) ≤ roomIn (storeIn keys' left' right' 0)
-      → Longer (call cat cells) (opening cat cells keys left right .after) (opening cat cells keys' left' right' .after)
+      → Longer (call cat cells) (openingFor cat cells asked keys left right .after) (openingFor cat cells asked keys' left' right' .after)

@@ -16,6 +16,7 @@ use Rattle.image.specs.Load.{Loads}
 use Rattle.image.specs.Write.{Writes}
 use Rattle.image.specs.RoundTrip.{found, trimmed}
 use Rattle.store.specs.Store.{storeIn, roomIn}
+use Rattle.disjunction.specs.Asked.{everySet}
 use Rattle.machine.specs.Machine.{call, opening}
 use Rattle.stream.specs.declared.OpenAnswer.{OpenAnswer}
 use Rattle.stream.specs.Promises.{stateOf, openedOf}
@@ -33,8 +34,8 @@ LoadedDemands =
     → (keys left right : List ℕ) → (0 < total (r .catalogue) → 0 < roomIn (storeIn keys left right 0))
     → (o : OpenAnswer) (ks ls rs : List ℕ) → openedOf o ks ls rs ≡ opening (r .catalogue) cells keys left right
     → (o .refusal ≡ 0)
-    × Demand2 (r .catalogue) cells (call (r .catalogue) cells) (stateOf (o .stream) ks ls rs)
-    × Demand3 (r .catalogue) cells (call (r .catalogue) cells) (roomIn (storeIn keys left right 0)) (stateOf (o .stream) ks ls rs)
+    × Demand2 (r .catalogue) cells everySet (call (r .catalogue) cells) (stateOf (o .stream) ks ls rs)
+    × Demand3 (r .catalogue) cells everySet (call (r .catalogue) cells) (roomIn (storeIn keys left right 0)) (stateOf (o .stream) ks ls rs)
 
 -- Both ways between an image and its tables.
 pub record RoundTrips : Type 0 where

@@ -11,11 +11,15 @@ use Rattle.image.specs.Load.{Loads}
 use Rattle.image.specs.Write.{Writes}
 use Rattle.door.specs.Door.{checkOf}
 use Rattle.padding.specs.Covering.{covering}
-use Rattle.machine.specs.Machine.{call, opening}
+use Rattle.disjunction.specs.Rule.{Place}
+use Rattle.machine.specs.Machine.{call, opening, openingRow}
 use Rattle.stream.specs.declared.StreamRecord.{StreamRecord}
 use Rattle.stream.specs.declared.OpenAnswer.{OpenAnswer}
 use Rattle.stream.specs.declared.StepAnswer.{StepAnswer}
-use Rattle.stream.specs.Promises.{stateOf, calledOf, openedOf}
+use Rattle.stream.specs.declared.RowRecord.{RowRecord}
+use Rattle.stream.specs.declared.RowOpenAnswer.{RowOpenAnswer}
+use Rattle.stream.specs.declared.RowStepAnswer.{RowStepAnswer}
+use Rattle.stream.specs.Promises.{stateOf, calledOf, openedOf, rowStateOf, calledRow, openedRow}
 use Rattle.harbour.specs.declared.NextAnswer.{NextAnswer}
 use Rattle.harbour.specs.Answers.{withRecord}
 
@@ -36,5 +40,13 @@ pub record OneOutcome : Type 0 where
       → calledOf (withRecord r q) ks ls rs w ≡ call cat cells b (stateOf s keys left right) row
       → calledOf (withRecord r′ q′) ks′ ls′ rs′ w′ ≡ call cat cells b (stateOf s keys left right) row
       → (r ≡ r′) × (q ≡ q′) × (ks ≡ ks′) × (ls ≡ ls′) × (rs ≡ rs′) × (w ≡ w′)
+  pub «open_row» : (cat : Catalogue) (cells : List ℕ) (s : Place) (keys left right : List ℕ) (r r′ : RowOpenAnswer) (ks ls rs ks′ ls′ rs′ : List ℕ)
+      → openedRow r ks ls rs ≡ openingRow cat cells s keys left right → openedRow r′ ks′ ls′ rs′ ≡ openingRow cat cells s keys left right
+      → (r ≡ r′) × (ks ≡ ks′) × (ls ≡ ls′) × (rs ≡ rs′)
+  pub «step_row» : (cat : Catalogue) (cells : List ℕ) (s : RowRecord) (keys left right row : List ℕ) (b : ℕ)
+      (r r′ : RowStepAnswer) (ks ls rs w ks′ ls′ rs′ w′ : List ℕ)
+      → calledRow r ks ls rs w ≡ call cat cells b (rowStateOf s keys left right) row
+      → calledRow r′ ks′ ls′ rs′ w′ ≡ call cat cells b (rowStateOf s keys left right) row
+      → (r ≡ r′) × (ks ≡ ks′) × (ls ≡ ls′) × (rs ≡ rs′) × (w ≡ w′)
   pub covers : (first second : List ℕ) (r r′ : Bool) → r ≡ covering first second → r′ ≡ covering first second → r ≡ r′
   pub check : (s : List ℕ) (r r′ : ℕ) → r ≡ checkOf s → r′ ≡ checkOf s → r ≡ r′

@@ -8,6 +8,7 @@ pub mod Pieces
 pub mod Starting
 pub mod Completeness
 pub mod CellLaws
+pub mod AskedLaws
 pub mod KeepingLaws
 pub mod Draining
 pub mod Sample

@@ -14,7 +14,8 @@ use Rattle.laws.specs.Lists.{tab}
 use Rattle.disjunction.specs.Sets.{Maximal}
 use Rattle.disjunction.specs.Rule.{rowsTo, rowsBelow, rows, rowAt, member, absent, near, agrees, rowTest, walk, grow, extension, stays, dropped, alone, joins, membersBelow, piece, start, trial}
 use Rattle.disjunction.specs.Cells.{Cells, same, sharing, matching, tables, gives, codeBelow, padded}
-use Rattle.disjunction.specs.Keeping.{sameDec, sets-discrete, decMemᴰ, stored, keep, take, try, listOpen, listMove, listTests, listMoves, testsIn}
+use Rattle.disjunction.specs.Asked.{everySet}
+use Rattle.disjunction.specs.Keeping.{sameDec, sets-discrete, decMemᴰ, stored, keep, keepIf, take, try, listOpen, listMove, listTests, listMoves, testsIn}
 use Rattle.disjunction.proofs.CellLaws.{tables-symmetric}
 use Rattle.disjunction.proofs.Draining.{ended, drained-all}
 
@@ -101,8 +102,8 @@ three-open = refl
 -- The stream over C is at its end after so many trials, and a step for each set, with so many row tests; it has found the sets of l in this order.
 abbrev Ends : Cells → List (List ℕ) → ℕ → ℕ → Type 0
 Ends C l trials tests =
-    (listMoves (tables C) (trials + length l) (listOpen (tables C)) ≡ ended (tables C) l)
-    × (testsIn (tables C) (trials + length l) (listOpen (tables C)) ≡ tests)
+    (listMoves (tables C) everySet (trials + length l) (listOpen (tables C) everySet) ≡ ended (tables C) l)
+    × (testsIn (tables C) everySet (trials + length l) (listOpen (tables C) everySet) ≡ tests)
 
 -- "end 3 18 160" is the first's.
 drained : Ends three threeSets 18 160
@@ -111,28 +112,28 @@ drained : Ends three threeSets 18 160
     × Ends twins ((1 ∷ 0 ∷ []) ∷ (0 ∷ 1 ∷ []) ∷ []) 4 8
     × Ends early ((1 ∷ 0 ∷ 1 ∷ []) ∷ (0 ∷ 1 ∷ 1 ∷ []) ∷ []) 6 18
     × Ends four fourSets 54 770
-unfolding listMoves listMove listTests testsIn listOpen try take keep stored decMemᴰ sets-discrete sameDec ℕ-discrete trial start piece joins membersBelow dropped stays tab extension grow walk rowTest near agrees absent member rowsBelow rowsTo alone sharing matching same any all three apart later twins early four cellsOf holds codeAt
+unfolding listMoves listMove listTests testsIn listOpen try take keepIf keep stored decMemᴰ sets-discrete sameDec ℕ-discrete trial start piece joins membersBelow dropped stays tab extension grow walk rowTest near agrees absent member rowsBelow rowsTo alone sharing matching same any all three apart later twins early four cellsOf holds codeAt
 drained = ((refl, refl), (refl, refl), (refl, refl), (refl, refl), (refl, refl), (refl, refl))
 
 -- They are all the maximal sets.
 module _ (T : List ℕ) where
   three-sets : Maximal (tables three) T ↔ List·Memᴰ T threeSets
-  three-sets = drained-all (tables three) (tables-symmetric three) 21 threeSets (drained .0 .0) (omega arith) T
+  three-sets = drained-all (tables three) everySet (tables-symmetric three) tt 21 threeSets (drained .0 .0) (omega arith) T
 
   apart-sets : Maximal (tables apart) T ↔ List·Memᴰ T ((1 ∷ 0 ∷ []) ∷ (0 ∷ 1 ∷ []) ∷ [])
-  apart-sets = drained-all (tables apart) (tables-symmetric apart) 6 ((1 ∷ 0 ∷ []) ∷ (0 ∷ 1 ∷ []) ∷ []) (drained .1 .0) (omega arith) T
+  apart-sets = drained-all (tables apart) everySet (tables-symmetric apart) tt 6 ((1 ∷ 0 ∷ []) ∷ (0 ∷ 1 ∷ []) ∷ []) (drained .1 .0) (omega arith) T
 
   later-sets : Maximal (tables later) T ↔ List·Memᴰ T ((1 ∷ 1 ∷ 1 ∷ []) ∷ [])
-  later-sets = drained-all (tables later) (tables-symmetric later) 4 ((1 ∷ 1 ∷ 1 ∷ []) ∷ []) (drained .2 .0) (omega arith) T
+  later-sets = drained-all (tables later) everySet (tables-symmetric later) tt 4 ((1 ∷ 1 ∷ 1 ∷ []) ∷ []) (drained .2 .0) (omega arith) T
 
   twins-sets : Maximal (tables twins) T ↔ List·Memᴰ T ((1 ∷ 0 ∷ []) ∷ (0 ∷ 1 ∷ []) ∷ [])
-  twins-sets = drained-all (tables twins) (tables-symmetric twins) 6 ((1 ∷ 0 ∷ []) ∷ (0 ∷ 1 ∷ []) ∷ []) (drained .3 .0) (omega arith) T
+  twins-sets = drained-all (tables twins) everySet (tables-symmetric twins) tt 6 ((1 ∷ 0 ∷ []) ∷ (0 ∷ 1 ∷ []) ∷ []) (drained .3 .0) (omega arith) T
 
   early-sets : Maximal (tables early) T ↔ List·Memᴰ T ((1 ∷ 0 ∷ 1 ∷ []) ∷ (0 ∷ 1 ∷ 1 ∷ []) ∷ [])
-  early-sets = drained-all (tables early) (tables-symmetric early) 8 ((1 ∷ 0 ∷ 1 ∷ []) ∷ (0 ∷ 1 ∷ 1 ∷ []) ∷ []) (drained .4 .0) (omega arith) T
+  early-sets = drained-all (tables early) everySet (tables-symmetric early) tt 8 ((1 ∷ 0 ∷ 1 ∷ []) ∷ (0 ∷ 1 ∷ 1 ∷ []) ∷ []) (drained .4 .0) (omega arith) T
 
   four-sets : Maximal (tables four) T ↔ List·Memᴰ T fourSets
-  four-sets = drained-all (tables four) (tables-symmetric four) 60 fourSets (drained .5 .0) (omega arith) T
+  four-sets = drained-all (tables four) everySet (tables-symmetric four) tt 60 fourSets (drained .5 .0) (omega arith) T
 
 -- ---- their padded rows
 

@@ -1,4 +1,5 @@
 pub mod Sets
 pub mod Rule
 pub mod Cells
+pub mod Asked
 pub mod Keeping

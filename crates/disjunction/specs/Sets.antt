@@ -40,6 +40,10 @@ size (suc r ∷ T) = suc (size T)
 abbrev pub Within : List ℕ → List ℕ → Type 0
 Within T U = (t : ℕ) → Member T t → at U t ≡ at T t
 
+-- There are more than c sets with P.
+abbrev pub MoreOf : (List ℕ → Type 0) → ℕ → Type 0
+MoreOf P c = (l : List (List ℕ)) × Distinct l × ((T : List ℕ) → List·Memᴰ T l → P T) × (c < length l)
+
 module _ (W : Tables) where
   -- Table t is there and has a row r.
   pub record Row (t r : ℕ) : Type 0 where
@@ -77,7 +81,3 @@ module _ (W : Tables) where
   pub record Maximal (T : List ℕ) : Type 0 where
     pub jcc : JCC T
     pub largest : (U : List ℕ) → JCC U → Within T U → U ≡ T
-
-  -- There are more than c maximal sets.
-  abbrev pub MoreThan : ℕ → Type 0
-  MoreThan c = (l : List (List ℕ)) × Distinct l × ((T : List ℕ) → List·Memᴰ T l → Maximal T) × (c < length l)

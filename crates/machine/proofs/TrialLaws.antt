@@ -13,6 +13,7 @@ use Rattle.tables.specs.declared.Catalogue.{Catalogue}
 use Rattle.tables.specs.Catalogues as catalogues
 use Rattle.tables.specs.Catalogues.{total}
 use Rattle.disjunction.specs.Rule.{Place, rowAt, Grown, extension, alone, trial}
+use Rattle.disjunction.specs.Asked.{Asked, everySet, wanted}
 use Rattle.disjunction.proofs.RowOrder.{rowAt-row}
 use Rattle.disjunction.proofs.Completeness.{trial-valid}
 use Rattle.rows.specs.World.{worldOf, setOf, placeOf}
@@ -26,7 +27,7 @@ use Rattle.store.specs.declared.Placed.{Placed}
 use Rattle.store.specs.declared.Placed.the-variants.{Known, Added, Full, Broken}
 use Rattle.store.proofs.LookLaws.{Inside}
 use Rattle.store.proofs.StoreLaws.{search-inside, refused-stays, room-added}
-use Rattle.machine.specs.Machine.{State, stateIn, keyAt, Trial, done, full, damaged, placed, offered, deepest, trialDue, trialOn, Fit, firstGrown}
+use Rattle.machine.specs.Machine.{State, stateFor, keyAt, Trial, done, full, damaged, raised, placed, offered, offeredIf, deepest, trialDue, trialOn, Fit, firstGrown}
 
 -- ---- from what the code has at hand
 
@@ -72,29 +73,39 @@ module _ (cat : Catalogue) (cells : List ℕ) where
   unfolding trialOn
   trial-lost q e = rw e
 
-  -- It passes: the code has the row at place next row, the key of what the trial came to, its row tests, and the offer's promise.
+  -- It passes, and the set that the trial came to is not wanted.
+  pub trial-unsought : (q : State) (tests : ℕ) → q .next < total cat → named cat (keyAt q (q .taken - 1)) ≡ true
+      → wanted (q .asked) (trialHad q .rows) ≡ false
+      → tests ≡ trialHad q .tests
+      → trialOn cat cells q ≡ done (raised q (q .store)) tests 0
+  unfolding trialOn
+  trial-unsought q tests h e w t = rw (e, row-place cat cells (q .next) h, w) (ap (λ (y : ℕ). done (raised q (q .store)) y 0) (sym t))
+
+  -- It is: the code has the row at place next row, the key of what the trial came to, its row tests, and the offer's promise.
   pub offer-trial : (q : State) (key tests : ℕ) (r : Placed) (ks ls rs : List ℕ) → q .next < total cat → named cat (keyAt q (q .taken - 1)) ≡ true
+      → wanted (q .asked) (trialHad q .rows) ≡ true
       → key ≡ keyOf bitsPerRow (trialHad q .rows)
       → tests ≡ trialHad q .tests
       → OfferPost (q .store) key (deepest cat) r ks ls rs
       → trialOn cat cells q ≡ placed q tests r (storeIn ks ls rs (foundAfter (q .store .found) r))
   unfolding trialOn
-  offer-trial q key tests r ks ls rs h e k t o =
-      rw (e, row-place cat cells (q .next) h)
+  offer-trial q key tests r ks ls rs h e w k t o =
+      rw (e, row-place cat cells (q .next) h, w)
       (ap₂ (λ (x y : ℕ). offered (deepest cat) q x y) (sym k) (sym t) ∙ offer-placed (deepest cat) q key tests r ks ls rs o)
 
   -- The same by what the offer came to. A refused one has left the store as it was.
   module _ (q : State) (key tests : ℕ) (h : q .next < total cat) (e : named cat (keyAt q (q .taken - 1)) ≡ true)
+      (w : wanted (q .asked) (trialHad q .rows) ≡ true)
       (k : key ≡ keyOf bitsPerRow (trialHad q .rows)) (t : tests ≡ trialHad q .tests)
       (r : Placed) (ks ls rs : List ℕ) (o : OfferPost (q .store) key (deepest cat) r ks ls rs) where
     by-placed : (a : Placed) → r ≡ a → trialOn cat cells q ≡ placed q tests a (storeIn ks ls rs (foundAfter (q .store .found) a))
-    by-placed a f = offer-trial q key tests r ks ls rs h e k t o ∙ ap (λ (x : Placed). placed q tests x (storeIn ks ls rs (foundAfter (q .store .found) x))) f
+    by-placed a f = offer-trial q key tests r ks ls rs h e w k t o ∙ ap (λ (x : Placed). placed q tests x (storeIn ks ls rs (foundAfter (q .store .found) x))) f
 
-    pub trial-known : (n : ℕ) → r ≡ Known n → trialOn cat cells q ≡ done (stateIn ks ls rs (q .store .found) (q .taken) (q .next + 1)) tests n
+    pub trial-known : (n : ℕ) → r ≡ Known n → trialOn cat cells q ≡ done (stateFor (q .asked) ks ls rs (q .store .found) (q .taken) (q .next + 1)) tests n
     unfolding placed
     trial-known n f = by-placed (Known n) f
 
-    pub trial-added : (n : ℕ) → r ≡ Added n → trialOn cat cells q ≡ done (stateIn ks ls rs (q .store .found + 1) (q .taken) (q .next + 1)) tests n
+    pub trial-added : (n : ℕ) → r ≡ Added n → trialOn cat cells q ≡ done (stateFor (q .asked) ks ls rs (q .store .found + 1) (q .taken) (q .next + 1)) tests n
     unfolding placed
     trial-added n f = by-placed (Added n) f
 
@@ -108,7 +119,7 @@ module _ (cat : Catalogue) (cells : List ℕ) where
 
   -- Open's first set, from the row that the code has.
   pub first-row : 0 < total cat
-      → firstGrown cat cells ≡ extension (worldOf cat cells) (alone (worldOf cat cells) (placeOf (catalogues.rowAt cat 0)))
+      → firstGrown cat cells everySet ≡ extension (worldOf cat cells) (alone (worldOf cat cells) (placeOf (catalogues.rowAt cat 0)))
   first-row h = ap (λ (s : Place). extension (worldOf cat cells) (alone (worldOf cat cells) s)) (row-place cat cells 0 h)
 
 -- ---- what is known after it
@@ -117,6 +128,7 @@ module _ (cat : Catalogue) (cells : List ℕ) where
 pub record Bound (cat : Catalogue) (q p : State) (t l : ℕ) : Type 0 where
   pub next : p .next ≡ q .next + 1
   pub taken : p .taken ≡ q .taken
+  pub asked : p .asked ≡ q .asked
   pub more : q .store .found ≤ p .store .found
   pub within : q .store .found ≤ roomIn (q .store) → p .store .found ≤ roomIn (p .store)
   pub room : roomIn (p .store) ≡ roomIn (q .store)
@@ -147,22 +159,28 @@ module _ (cat : Catalogue) (cells : List ℕ) where
       byRoom p s l t x true f =
           let m : q .store .found < roomIn (q .store) = ltb-true (q .store .found) (roomIn (q .store)) f in
           let e = room-added (q .store) key p s in
-          record { next = refl; taken = refl; more = omega arith; within = λ _. omega arith; room = e; tests = omega arith; looks = omega arith }
+          record { next = refl; taken = refl; asked = refl; more = omega arith; within = λ _. omega arith; room = e; tests = omega arith; looks = omega arith }
       byRoom p s l t x false f = refl
 
       by : n ≤ cat .n * total cat → (a : Looked) → Inside (q .store .found) (deepest cat) a
           → Bounded cat q (placed q n (answerOf (q .store) a) (storeAfter (q .store) key a))
-      by t (Found p l) i = record { next = refl; taken = refl; more = omega arith; within = λ w. w; room = refl; tests = omega arith; looks = omega (arith, i .1) }
+      by t (Found p l) i = record { next = refl; taken = refl; asked = refl; more = omega arith; within = λ w. w; room = refl; tests = omega arith; looks = omega (arith, i .1) }
       by t (Absent p s l) i = byRoom p s l t (i .1) (ltb (q .store .found) (roomIn (q .store))) refl
       by t (Damaged l) i = refl
 
-      byKey : (b : Bool) → named cat k ≡ b → Bounded cat q (cond b (offered (deepest cat) q key n) damaged)
+      -- A trial without a search has no looks.
+      byWant : (b : Bool) → n ≤ cat .n * total cat → Bounded cat q (offeredIf b (deepest cat) q key n)
+      byWant true t = by t (searchOf (q .store) key (deepest cat)) (search-inside (q .store) key (deepest cat) some)
+      byWant false t =
+          record { next = refl; taken = refl; asked = refl; more = omega arith; within = λ w. w; room = refl; tests = t; looks = omega arith }
+
+      byKey : (b : Bool) → named cat k ≡ b → Bounded cat q (cond b (offeredIf (wanted (q .asked) (trialDue cat cells q .rows)) (deepest cat) q key n) damaged)
       byKey false e = refl
       byKey true e =
           let W = worldOf cat cells in
           let r = rowAt-row W (q .next) (rw (rows-total cat cells) h) in
           let v = trial-valid W (world-symmetric cat cells) (setOf cat k) (rowAt W (q .next)) (named-valid cat cells k (named-iff cat k .0 e)) r in
-          by (rw (rows-total cat cells) at (v .few)) (searchOf (q .store) key (deepest cat)) (search-inside (q .store) key (deepest cat) some)
+          byWant (wanted (q .asked) (trialDue cat cells q .rows)) (rw (rows-total cat cells) at (v .few))
 
   -- A trial that was done leaves a stream that fits.
   pub trial-fit : (q p : State) (t l : ℕ) → Fit cat q → q .next < total cat → trialOn cat cells q ≡ done p t l → Bound cat q p t l × Fit cat p
@@ -176,5 +194,6 @@ module _ (cat : Catalogue) (cells : List ℕ) where
           begun = λ z. absurd (omega (arith, x .taken, g .begun (sym (x .taken) ∙ z)));
           some = λ m. omega (arith, g .some m, x .more);
           none = λ z. absurd (omega arith);
+          asked = rw (x .asked) (g .asked);
         },
       )

@@ -2,7 +2,7 @@
 -- and what open gives. The tables are a catalogue and its cells. Calls one after the other are in specs/Runs, what follows in proofs/. Assumes nothing.
 use Prim.Native.Nat.{ℕ, zero, suc, _+_, _-_, _*_, _≤_, _<_}
 use mathlib.Core.Path.{_≡_}
-use mathlib.Core.Bool.{Bool, not, cond, _&&_, _||_}
+use mathlib.Core.Bool.{Bool, false, not, cond, _&&_, _||_}
 use mathlib.Core.List.{List}
 use lib.ListN.{length, getD}
 use lib.Dec.{ltb, eqb}
@@ -11,25 +11,32 @@ use Rattle.keys.specs.Keys.{bitsPerRow, keyOf}
 use Rattle.tables.specs.declared.Catalogue.{Catalogue}
 use Rattle.tables.specs.Catalogues.{total}
 use Rattle.tables.specs.Checks.{firstOf, catalogueFault}
-use Rattle.disjunction.specs.Rule.{Grown, rowAt, extension, alone, trial}
+use Rattle.disjunction.specs.Rule.{Place, Grown, rowAt, extension, alone, trial}
+use Rattle.disjunction.specs.Asked.{Asked, everySet, everyWith, wanted, firstFor}
 use Rattle.disjunction.specs.Cells.{padded}
 use Rattle.rows.specs.World.{cellsIn, worldOf, setOf}
-use Rattle.rows.specs.Named.{named}
+use Rattle.rows.specs.Named.{named, There, rowsThere}
 use Rattle.store.specs.Store.{Store, storeIn, roomIn, searchOf, filed, answerOf, storeAfter}
 use Rattle.store.specs.declared.Placed.{Placed}
 use Rattle.store.specs.declared.Placed.the-variants.{Known, Added, Full, Broken}
 
 -- ---- the state
 
--- "One stream record per open stream ..: found, taken, next row", and the three lists of the store. Found stands in the store.
+-- "One stream record per open stream ..: found, taken, next row", and the three lists of the store. Found stands in the store. A stream's record
+-- also says what is asked for: every set, or those that hold the row that it names.
 pub record State : Type 0 where
   pub store : Store
   pub taken : ℕ
   pub next : ℕ
+  pub asked : Asked
 
--- The state of the three lists and the three numbers.
+-- The state of the three lists and the three numbers, of a stream that is asked for a.
+abbrev pub stateFor : Asked → List ℕ → List ℕ → List ℕ → ℕ → ℕ → ℕ → State
+stateFor a keys left right found taken next = record { store = storeIn keys left right found; taken = taken; next = next; asked = a }
+
+-- That of the stream of every set.
 abbrev pub stateIn : List ℕ → List ℕ → List ℕ → ℕ → ℕ → ℕ → State
-stateIn keys left right found taken next = record { store = storeIn keys left right found; taken = taken; next = next }
+stateIn keys left right found taken next = stateFor everySet keys left right found taken next
 
 -- The key of record p.
 abbrev pub keyAt : State → ℕ → ℕ
@@ -45,7 +52,7 @@ pub data Trial : Type 0 where
 
 -- "Do the trial .., and raise next row": r is the store after it.
 abbrev pub raised : State → Store → State
-raised q r = record { store = r; taken = q .taken; next = q .next + 1 }
+raised q r = record { store = r; taken = q .taken; next = q .next + 1; asked = q .asked }
 
 -- By what the store made of the key that was offered.
 unfoldable pub placed : State → ℕ → Placed → Store → Trial
@@ -59,6 +66,10 @@ unfoldable pub offered : ℕ → State → ℕ → ℕ → Trial
 offered deepest q key tests =
     let a = searchOf (q .store) key deepest in placed q tests (answerOf (q .store) a) (storeAfter (q .store) key a)
 
+-- "A trial whose extended set lacks the row makes no search" (#109): no look is made, and the store stays.
+abbrev pub offeredIf : Bool → ℕ → State → ℕ → ℕ → Trial
+offeredIf b deepest q key tests = cond b (offered deepest q key tests) (done (raised q (q .store)) tests 0)
+
 -- "Look 8n + 1" is the last one: 8n bits turn a search.
 abbrev pub deepest : Catalogue → ℕ
 deepest cat = bitsPerRow * cat .n
@@ -71,7 +82,10 @@ module _ (cat : Catalogue) (cells : List ℕ) where
 
   -- The trial. "14 is met when a used record's key is 0 or names a missing row or a table from n on (tested when handed out or tried on)."
   unfoldable pub trialOn : State → Trial
-  trialOn q = cond (named cat (keyAt q (q .taken - 1))) (offered (deepest cat) q (keyOf bitsPerRow (trialDue q .rows)) (trialDue q .tests)) damaged
+  trialOn q =
+      cond (named cat (keyAt q (q .taken - 1)))
+      (offeredIf (wanted (q .asked) (trialDue q .rows)) (deepest cat) q (keyOf bitsPerRow (trialDue q .rows)) (trialDue q .tests))
+      damaged
 
 -- ---- what a call gives
 
@@ -131,7 +145,7 @@ afterTrial damaged q row go = answer (refused 14) q row
 
 -- "Raise taken, set next row to 0."
 abbrev pub takenOf : State → State
-takenOf q = record { store = q .store; taken = q .taken + 1; next = 0 }
+takenOf q = record { store = q .store; taken = q .taken + 1; next = 0; asked = q .asked }
 
 -- The key of the record that is handed out next.
 abbrev pub keyDue : State → ℕ
@@ -139,11 +153,22 @@ keyDue q = keyAt q (q .taken)
 
 -- ---- the refusals before work
 
+-- "No such table or row" (#109: 19 at open, 13 in a record). It is not met where every set is asked for.
+abbrev pub stray : Catalogue → Asked → Bool
+stray cat everySet = false
+stray cat (everyWith s) = eqb (s .row) 0 || ltb (rowsThere cat (s .table)) (s .row)
+
+-- What it is for the row asked for to be there (`stray-iff`).
+abbrev pub Askable : Catalogue → Asked → Type 0
+Askable cat everySet = Unit
+Askable cat (everyWith s) = There cat (s .table) (s .row)
+
 -- "13 is met when found passes the store, taken passes found, next row passes N, taken is 0 with next row not N, or found is 0 with N above 0 or above
--- 0 with N = 0."
+-- 0 with N = 0", and "also if its record names no such row" (#109).
 unfoldable pub unfit : Catalogue → State → Bool
 unfit cat q =
-    ltb (roomIn (q .store)) (q .store .found)
+    stray cat (q .asked)
+    || ltb (roomIn (q .store)) (q .store .found)
     || ltb (q .store .found) (q .taken)
     || ltb (total cat) (q .next)
     || (eqb (q .taken) 0 && not (eqb (q .next) (total cat)))
@@ -158,6 +183,7 @@ pub record Fit (cat : Catalogue) (q : State) : Type 0 where
   pub begun : q .taken ≡ 0 → q .next ≡ total cat
   pub some : 0 < total cat → 0 < q .store .found
   pub none : total cat ≡ 0 → q .store .found ≡ 0
+  pub asked : Askable cat (q .asked)
 
 -- "Stream call checks the catalogue as open does, then 13, then 11 (padded row shorter than m)." 0 stands for none.
 unfoldable pub callFault : Catalogue → ℕ → State → List ℕ → ℕ
@@ -201,9 +227,14 @@ module _ (cat : Catalogue) (cells : List ℕ) where
 
 -- ---- open
 
--- "A record of zeros", and lists as they were lent.
-abbrev pub zeros : List ℕ → List ℕ → List ℕ → State
-zeros keys left right = stateIn keys left right 0 0 0
+-- "A record of zeros": a record that names a row then names row 0 of table 0.
+abbrev pub blank : Asked → Asked
+blank everySet = everySet
+blank (everyWith s) = everyWith (record { table = 0; row = 0 })
+
+-- It, and lists as they were lent.
+abbrev pub zeros : Asked → List ℕ → List ℕ → List ℕ → State
+zeros a keys left right = stateFor (blank a) keys left right 0 0 0
 
 -- What open gives: its refusal, 0 for none, the stream, and its row tests.
 pub record Opened : Type 0 where
@@ -211,36 +242,47 @@ pub record Opened : Type 0 where
   pub after : State
   pub tests : ℕ
 
--- "Open checks the catalogue (4; then table by table 5, 6, 8), then 12 if N is above 0 and the store has no record." 0 stands for none.
-unfoldable pub openFault : Catalogue → ℕ → Store → ℕ
-openFault cat lent store =
+-- "Open checks the catalogue (4; then table by table 5, 6, 8)," 19 "after open's catalogue checks and before 12" (#109), "then 12 if N is above 0 and
+-- the store has no record." 0 stands for none.
+unfoldable pub openFault : Catalogue → ℕ → Asked → Store → ℕ
+openFault cat lent a store =
     firstOf (catalogueFault cat lent)
+    (cond (stray cat a) 19
     (cond (ltb 0 (total cat) && eqb (roomIn store) 0) 12
-    0)
+    0))
 
 -- "Refused, it gives a record of zeros and writes nothing."
 abbrev pub unlessRefused : ℕ → State → Opened → Opened
 unlessRefused zero q other = other
 unlessRefused (suc k) q other = record { refusal = suc k; after = q; tests = 0 }
 
-module _ (cat : Catalogue) (cells : List ℕ) where
-  -- The first row alone, extended.
+module _ (cat : Catalogue) (cells : List ℕ) (a : Asked) where
+  -- The first row, or the row asked for, alone and extended.
   abbrev pub firstGrown : Grown
-  firstGrown = extension (worldOf cat cells) (alone (worldOf cat cells) (rowAt (worldOf cat cells) 0))
+  firstGrown = extension (worldOf cat cells) (alone (worldOf cat cells) (firstFor (worldOf cat cells) a))
 
   -- "Open with N above 0 extends the first row alone, stores it as record 0 with both links 0 and gives found 1, taken 0, next row N. With N = 0 all
   -- three are 0. Open also gives its row tests."
   unfoldable pub begun : List ℕ → List ℕ → List ℕ → Opened
   begun keys left right =
       cond (eqb (total cat) 0)
-      (record { refusal = 0; after = zeros keys left right; tests = 0 })
+      (record { refusal = 0; after = stateFor a keys left right 0 0 0; tests = 0 })
       (record {
         refusal = 0;
-        after = record { store = filed (storeIn keys left right 0) (keyOf bitsPerRow (firstGrown .rows)); taken = 0; next = total cat };
+        after = record { store = filed (storeIn keys left right 0) (keyOf bitsPerRow (firstGrown .rows)); taken = 0; next = total cat; asked = a };
         tests = firstGrown .tests;
       })
 
-  -- Open, on the three lists that are lent.
-  unfoldable pub opening : List ℕ → List ℕ → List ℕ → Opened
-  opening keys left right =
-      unlessRefused (openFault cat (length cells) (storeIn keys left right 0)) (zeros keys left right) (begun keys left right)
+  -- Open of a stream that is asked for a, on the three lists that are lent.
+  unfoldable pub openingFor : List ℕ → List ℕ → List ℕ → Opened
+  openingFor keys left right =
+      unlessRefused (openFault cat (length cells) a (storeIn keys left right 0)) (zeros a keys left right) (begun keys left right)
+
+module _ (cat : Catalogue) (cells : List ℕ) where
+  -- Open, for every set.
+  abbrev pub opening : List ℕ → List ℕ → List ℕ → Opened
+  opening keys left right = openingFor cat cells everySet keys left right
+
+  -- "Add a stream that starts by extending that row alone" (#109). Its calls are those of any stream: `call`.
+  abbrev pub openingRow : Place → List ℕ → List ℕ → List ℕ → Opened
+  openingRow s keys left right = openingFor cat cells (everyWith s) keys left right

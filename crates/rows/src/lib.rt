@@ -26,7 +26,7 @@ const MOST_TABLES: usize = 8;
 
 // How many rows a key may name in table t: none where there is no such table.
 // Entries from n on are ignored, so they are not looked at.
-fn rows_there(cat: Catalogue, t: usize) -> u64
+pub fn rows_there(cat: Catalogue, t: usize) -> u64
     requires { ⌜ t < mostTables ⌝ }
     ensures { λ r. ⌜ r ≡ rowsThere cat t ⌝ }
 {

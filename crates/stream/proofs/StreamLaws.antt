@@ -3,9 +3,10 @@
 use Prim.Native.Nat.{ℕ, _*_, _^_, _≤_, _<_}
 use native.Mathlib.Nat.{eq-zero-or-pos}
 use native.Mathlib.Omega.{arith}
-use mathlib.Core.Path.{_≡_, sym, ap, _∙_}
+use mathlib.Core.Path.{_≡_, refl, sym, ap, _∙_}
+use mathlib.Core.Bool.{Bool}
 use mathlib.Core.Logic.{_⊎_, inl, inr, ⊎-elim}
-use mathlib.Core.List.{List}
+use mathlib.Core.List.{List, []}
 use lib.ListN.{length, set, replicate, length-replicate, getD-replicate}
 use lib.Seq.{ext-getD}
 use Rattle.keys.specs.Keys.{bitsPerRow, rowOf, withRow}
@@ -13,20 +14,26 @@ use Rattle.tables.specs.declared.Catalogue.{Catalogue}
 use Rattle.tables.specs.Catalogues.{countOf, total}
 use lib.Pow.{pow-pos}
 use native.Mathlib.Decide.{ℕ-discrete}
-use Rattle.rows.proofs.NamedLaws.{key-some, place-there, row-small}
+use Rattle.rows.proofs.NamedLaws.{key-some, there-row, place-there, row-small}
 use Rattle.tables.specs.Catalogues as catalogues
 use Rattle.rows.specs.World.{worldOf, setOf}
-use Rattle.rows.specs.Named.{Named, There}
+use Rattle.rows.specs.Named.{Named, There, rowsThere}
 use Rattle.disjunction.specs.Rule.{alone, extension}
+use Rattle.disjunction.specs.Asked.{Asked, everySet, everyWith, wanted}
 use Rattle.tables.specs.Checks.{Lawful}
-use Rattle.rows.proofs.WorldLaws.{row-place}
+use Rattle.disjunction.proofs.RowOrder as order
+use Rattle.rows.proofs.WorldLaws.{row-place, rows-total}
 use Rattle.store.specs.Store.{Store, searchOf, OfferPost}
 use Rattle.store.proofs.StoreLaws.{refused-stays}
 use Rattle.keys.proofs.KeyLaws.{row-zero, row-same, row-other, with-lt}
 use Rattle.keys.proofs.SetLaws.{in-length, in-at, in-with}
 use Rattle.store.specs.declared.Placed.{Placed}
 use Rattle.store.specs.declared.Placed.the-variants.{Full, Broken}
-use Rattle.machine.specs.Machine.{State, Fit, firstGrown}
+use lib.Dec.{ltb, eqb}
+use borrow.Author.Tests.{ne-eqb}
+use Rattle.machine.specs.Machine.{State, Askable, stray, Fit, firstGrown}
+use Rattle.stream.specs.Promises.{askedOf, Reached, keyWanted}
+use Rattle.stream.specs.declared.Scope.the-variants.{With}
 
 -- A trial is due only once a set was taken.
 pub taken-some : (cat : Catalogue) (q : State) → Fit cat q → q .next < total cat → 0 < q .taken
@@ -72,8 +79,29 @@ alone-named cat t r h s =
 
 -- The first row alone, extended, as open has it.
 pub first-grown : (cat : Catalogue) (cells : List ℕ) (lent : ℕ) → Lawful cat lent → 0 < total cat
-    → extension (worldOf cat cells) (setOf cat (withRow bitsPerRow 0 (catalogues.rowAt cat 0 .table) (catalogues.rowAt cat 0 .row))) ≡ firstGrown cat cells
+    → extension (worldOf cat cells) (setOf cat (withRow bitsPerRow 0 (catalogues.rowAt cat 0 .table) (catalogues.rowAt cat 0 .row))) ≡ firstGrown cat cells everySet
 first-grown cat cells lent L h =
     let x = place-there cat cells 0 h in
     let s = row-small cat lent L _ _ x in
     ap (extension (worldOf cat cells)) (alone-set cat cells _ _ x s ∙ ap (alone (worldOf cat cells)) (sym (row-place cat cells 0 h)))
+
+-- ---- what is asked for
+
+-- Where a row is there, there are rows.
+pub there-some : (cat : Catalogue) (t r : ℕ) → There cat t r → 0 < total cat
+there-some cat t r x =
+    let (i, l, e) = order.row-place (worldOf cat []) (record { table = t; row = r }) (there-row cat [] t r x) in omega (arith, l, rows-total cat [])
+
+-- The table asked for has room in a key,
+pub asked-reached : (cat : Catalogue) (lent : ℕ) → Lawful cat lent → (a : Asked) → Askable cat a → Reached a
+asked-reached cat lent L everySet h = tt
+asked-reached cat lent L (everyWith s) h = omega (arith, h .table, L .tables)
+
+-- and a set is wanted exactly where its key is.
+pub key-wanted : (cat : Catalogue) (a : Asked) (key : ℕ) → Askable cat a → keyWanted a key ≡ wanted a (setOf cat key)
+key-wanted cat everySet key h = refl
+key-wanted cat (everyWith s) key h = ap (λ (r : ℕ). eqb r (s .row)) (sym (in-at bitsPerRow (cat .n) key (s .table) (h .table)))
+
+-- A row of a table that is there, and one of a table that is not.
+pub stray-known : (cat : Catalogue) (t r : ℕ) (b : Bool) → (r ≡ 0 → ⊥) → ltb (rowsThere cat t) r ≡ b → b ≡ stray cat (askedOf (With t r))
+stray-known cat t r b h e = rw (ne-eqb r 0 h) (sym e)

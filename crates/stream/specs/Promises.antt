@@ -1,12 +1,25 @@
 -- What open and the stream call promise: all that they give, and all that the lent slices then hold, is what crate machine says of them.
 -- One equation each, so that no input admits two outcomes. Assumes nothing.
-use Prim.Native.Nat.{ℕ, _+_}
+use Prim.Native.Nat.{ℕ, _+_, _<_}
 use mathlib.Core.Path.{_≡_}
+use mathlib.Core.Bool.{Bool, true}
 use mathlib.Core.List.{List}
+use lib.Dec.{eqb}
 use Rattle.tables.specs.declared.Catalogue.{Catalogue}
-use Rattle.machine.specs.Machine.{State, stateIn, Trial, done, full, damaged, trialOn, Says, aSet, finished, working, refused, Called, work, Opened}
+use Rattle.machine.specs.Machine.{State, stateFor, Trial, done, full, damaged, trialOn, Says, aSet, finished, working, refused, Called, work, Opened}
 use Rattle.machine.specs.Machine.{piled}
+use Rattle.disjunction.specs.Asked.{Asked, everySet, everyWith}
+use Rattle.disjunction.specs.Rule.{Place, extension, alone}
+use Rattle.keys.specs.Keys.{bitsPerRow, mostTables, rowOf, keyOf}
+use Rattle.tables.specs.Catalogues.{total}
+use Rattle.rows.specs.World.{worldOf}
+use Rattle.store.specs.Store.{storeIn, filed}
 use Rattle.stream.specs.declared.StreamRecord.{StreamRecord}
+use Rattle.stream.specs.declared.Scope.{Scope}
+use Rattle.stream.specs.declared.RowRecord.{RowRecord}
+use Rattle.stream.specs.declared.RowStepAnswer.{RowStepAnswer}
+use Rattle.stream.specs.declared.RowOpenAnswer.{RowOpenAnswer}
+use Rattle.stream.specs.declared.Scope.the-variants.{Every, With}
 use Rattle.stream.specs.declared.Answer.{Answer}
 use Rattle.stream.specs.declared.Answer.the-variants.{Set, Finished, Working, Refused}
 use Rattle.stream.specs.declared.StepAnswer.{StepAnswer}
@@ -14,9 +27,32 @@ use Rattle.stream.specs.declared.OpenAnswer.{OpenAnswer}
 use Rattle.stream.specs.declared.Tried.{Tried}
 use Rattle.stream.specs.declared.Tried.the-variants.{Done, Full, Damaged}
 
+-- What the code is asked for, as the machine says it.
+abbrev pub askedOf : Scope → Asked
+askedOf Every = everySet
+askedOf (With t r) = everyWith (record { table = t; row = r })
+
+-- A key has room for the table that is asked for.
+abbrev pub Reached : Asked → Type 0
+Reached everySet = Unit
+Reached (everyWith s) = s .table < mostTables
+
+-- Whether a key's set is asked for.
+abbrev pub keyWanted : Asked → ℕ → Bool
+keyWanted everySet key = true
+keyWanted (everyWith s) key = eqb (rowOf bitsPerRow key (s .table)) (s .row)
+
 -- A stream record with the three lists of its store, as a state of the machine.
+abbrev pub stateWith : Asked → StreamRecord → List ℕ → List ℕ → List ℕ → State
+stateWith a s keys left right = stateFor a keys left right (s .found) (s .taken) (s .«next_row»)
+
+-- That of the stream of every set.
 abbrev pub stateOf : StreamRecord → List ℕ → List ℕ → List ℕ → State
-stateOf s keys left right = stateIn keys left right (s .found) (s .taken) (s .«next_row»)
+stateOf s keys left right = stateWith everySet s keys left right
+
+-- That of the stream of the sets that hold one row, which its record names.
+abbrev pub rowStateOf : RowRecord → List ℕ → List ℕ → List ℕ → State
+rowStateOf s keys left right = stateWith (everyWith (record { table = s .table; row = s .row })) (s .stream) keys left right
 
 -- The paper's word for each answer, with its number for each refusal.
 abbrev pub saysOf : Answer → Says
@@ -26,27 +62,53 @@ saysOf Working = working
 saysOf (Refused k) = refused k
 
 -- All that a call gave, with what the lent slices hold after it.
-abbrev pub calledOf : StepAnswer → List ℕ → List ℕ → List ℕ → List ℕ → Called
-calledOf r keys left right row =
+abbrev pub calledWith : Asked → StepAnswer → List ℕ → List ℕ → List ℕ → List ℕ → Called
+calledWith a r keys left right row =
     record {
       says = saysOf (r .answer);
       key = r .key;
       trials = r .trials;
       tests = r .tests;
       looks = r .looks;
-      after = stateOf (r .stream) keys left right;
+      after = stateWith a (r .stream) keys left right;
       row = row;
     }
 
+abbrev pub calledOf : StepAnswer → List ℕ → List ℕ → List ℕ → List ℕ → Called
+calledOf r keys left right row = calledWith everySet r keys left right row
+
+abbrev pub calledRow : RowStepAnswer → List ℕ → List ℕ → List ℕ → List ℕ → Called
+calledRow r keys left right row = calledWith (everyWith (record { table = r .table; row = r .row })) (r .step) keys left right row
+
 -- All that open gave, with what the lent slices hold after it.
+abbrev pub openedWith : Asked → OpenAnswer → List ℕ → List ℕ → List ℕ → Opened
+openedWith a r keys left right = record { refusal = r .refusal; after = stateWith a (r .stream) keys left right; tests = r .tests }
+
 abbrev pub openedOf : OpenAnswer → List ℕ → List ℕ → List ℕ → Opened
-openedOf r keys left right = record { refusal = r .refusal; after = stateOf (r .stream) keys left right; tests = r .tests }
+openedOf r keys left right = openedWith everySet r keys left right
+
+abbrev pub openedRow : RowOpenAnswer → List ℕ → List ℕ → List ℕ → Opened
+openedRow r keys left right = openedWith (everyWith (record { table = r .table; row = r .row })) (r .opened) keys left right
+
+-- What open comes to behind its refusals, whatever is asked for: the row s alone, extended, is record 0.
+pub record Begins (cat : Catalogue) (cells : List ℕ) (s : Place) (ks ls rs : List ℕ) (r : OpenAnswer) (ks′ ls′ rs′ : List ℕ) : Type 0 where
+  pub same : (a : Asked) → openedWith a r ks′ ls′ rs′
+      ≡ record {
+        refusal = 0;
+        after = record {
+          store = filed (storeIn ks ls rs 0) (keyOf bitsPerRow (extension (worldOf cat cells) (alone (worldOf cat cells) s) .rows));
+          taken = 0;
+          next = total cat;
+          asked = a;
+        };
+        tests = extension (worldOf cat cells) (alone (worldOf cat cells) s) .tests;
+      }
 
 -- What a trial came to, as the machine says it: one that is done has raised next row.
-abbrev pub triedOf : Tried → StreamRecord → List ℕ → List ℕ → List ℕ → Trial
-triedOf (Done found tests looks) s keys left right = done (stateIn keys left right found (s .taken) (s .«next_row» + 1)) tests looks
-triedOf Full s keys left right = full
-triedOf Damaged s keys left right = damaged
+abbrev pub triedOf : Tried → Asked → StreamRecord → List ℕ → List ℕ → List ℕ → Trial
+triedOf (Done found tests looks) a s keys left right = done (stateFor a keys left right found (s .taken) (s .«next_row» + 1)) tests looks
+triedOf Full a s keys left right = full
+triedOf Damaged a s keys left right = damaged
 
 -- A refused trial "leaves no mark": the three lists are as they were.
 abbrev pub Unmarked : Tried → List ℕ → List ℕ → List ℕ → List ℕ → List ℕ → List ℕ → Type 0
@@ -55,10 +117,10 @@ Unmarked Full ks ls rs ks′ ls′ rs′ = (ks′ ≡ ks) × (ls′ ≡ ls) × (
 Unmarked Damaged ks ls rs ks′ ls′ rs′ = (ks′ ≡ ks) × (ls′ ≡ ls) × (rs′ ≡ rs)
 
 -- What the code's trial promises, of every store, a damaged one too.
-pub record Tries (cat : Catalogue) (cells : List ℕ) (s : StreamRecord) (ks ls rs : List ℕ) (r : Tried) (ks′ ls′ rs′ : List ℕ) : Type 0 where
-  pub same : trialOn cat cells (stateOf s ks ls rs) ≡ triedOf r s ks′ ls′ rs′
+pub record Tries (cat : Catalogue) (cells : List ℕ) (a : Asked) (s : StreamRecord) (ks ls rs : List ℕ) (r : Tried) (ks′ ls′ rs′ : List ℕ) : Type 0 where
+  pub same : trialOn cat cells (stateWith a s ks ls rs) ≡ triedOf r a s ks′ ls′ rs′
   pub unmarked : Unmarked r ks ls rs ks′ ls′ rs′
 
--- The end of a call, where next row is N: whatever budget is left and whatever the links are, with these counts made before.
+-- The end of a call, where next row is N: whatever is asked for, whatever budget is left and whatever the links are, with these counts made before.
 pub record Ends (cat : Catalogue) (cells : List ℕ) (s : StreamRecord) (a t l : ℕ) (ks row : List ℕ) (r : StepAnswer) (row′ : List ℕ) : Type 0 where
-  pub same : (b : ℕ) (ls rs : List ℕ) → calledOf r ks ls rs row′ ≡ piled a t l (work cat cells b (stateOf s ks ls rs) row)
+  pub same : (v : Asked) (b : ℕ) (ls rs : List ℕ) → calledWith v r ks ls rs row′ ≡ piled a t l (work cat cells b (stateWith v s ks ls rs) row)

@@ -6,16 +6,34 @@ ghost use lib.ListN.{length};
 ghost use Rattle.tables.specs.Sizes.{mostCells};
 ghost use Rattle.tables.specs.Catalogues.{FirstCells, total};
 ghost use Rattle.tables.specs.Checks.{Lawful};
-ghost use Rattle.machine.specs.Machine.{Fit, unfit, callFault, work, call, opening};
-ghost use Rattle.stream.specs.Promises.{stateOf, calledOf, openedOf, Tries, Ends};
+ghost use Rattle.keys.specs.Keys.{mostTables};
+ghost use Rattle.machine.specs.Machine.{Fit, stray, unfit, callFault, work, call, opening, openingRow};
+ghost use Rattle.stream.specs.Promises.{askedOf, Reached, keyWanted, stateWith, stateOf, rowStateOf, calledWith, calledOf, calledRow, openedOf, openedRow, Begins, Tries, Ends};
+ghost use Rattle.store.specs.Store.{roomOf};
+ghost use Rattle.rows.specs.World.{placeOf};
+ghost use Rattle.rows.specs.Named.{There};
 use store::Placed;
 use tables::Catalogue;
+use tables::Row;
 
 // "One stream record per open stream": records found, records handed out, and the next row to try.
 pub struct StreamRecord {
     pub found: usize,
     pub taken: usize,
     pub next_row: usize,
+}
+
+// What a stream is asked for: every set, or those with row r of table t.
+pub enum Scope {
+    Every,
+    With(usize, usize),
+}
+
+// The record of a stream of the sets that hold one row: it names the row.
+pub struct RowRecord {
+    pub stream: StreamRecord,
+    pub table: usize,
+    pub row: usize,
 }
 
 // What a call answers: a set, the end, or that its budget is spent; or the number of a refusal.
@@ -36,11 +54,25 @@ pub struct StepAnswer {
     pub stream: StreamRecord,
 }
 
+// The same of a stream of the sets that hold one row, which stays the one that its record names.
+pub struct RowStepAnswer {
+    pub step: StepAnswer,
+    pub table: usize,
+    pub row: usize,
+}
+
 // All that open gives: the refusal (0 for none), the record, and its row tests.
 pub struct OpenAnswer {
     pub refusal: usize,
     pub stream: StreamRecord,
     pub tests: usize,
+}
+
+// The same of a stream of the sets that hold one row, with the row that its record then names.
+pub struct RowOpenAnswer {
+    pub opened: OpenAnswer,
+    pub table: usize,
+    pub row: usize,
 }
 
 // What a trial comes to: the records found after it, its row tests and its looks; or refusal 12, or 14.
@@ -62,6 +94,34 @@ fn unopened(refusal: usize) -> OpenAnswer
             next_row: 0,
         },
         tests: 0,
+    }
+}
+
+// A row alone, extended, becomes record 0 of the store.
+fn file_first(
+    cat: Catalogue,
+    cells: &[u64],
+    keys: &mut [u64],
+    left: &mut [u16],
+    right: &mut [u16],
+    first: Row,
+) -> OpenAnswer
+    requires { ⌜ Lawful cat (length (now cells)) × There cat (first .table) (first .row) × (0 < roomOf (length (now keys)) (length (now left)) (length (now right))) ⌝ }
+    ensures { λ r. ⌜ Begins cat (now (cells .entry)) (placeOf first) (now (keys .entry)) (now (left .entry)) (now (right .entry)) r (now (keys .exit)) (now (left .exit)) (now (right .exit)) ⌝ }
+{
+    let total = tables::total_rows(cat);
+    let alone = keys::with_row(0, first.table, first.row as u64);
+    let firsts = tables::first_cells(cat);
+    let g = sets::extend(cat, cells, firsts, alone);
+    store::file_record(keys, left, right, 0, g.key);
+    OpenAnswer {
+        refusal: 0,
+        stream: StreamRecord {
+            found: 1,
+            taken: 0,
+            next_row: total,
+        },
+        tests: g.tests,
     }
 }
 
@@ -89,18 +149,84 @@ pub fn open(
         return unopened(12);
     }
     let first = tables::row_at(cat, 0);
-    let alone = keys::with_row(0, first.table, first.row as u64);
-    let firsts = tables::first_cells(cat);
-    let g = sets::extend(cat, cells, firsts, alone);
-    store::file_record(keys, left, right, 0, g.key);
-    OpenAnswer {
-        refusal: 0,
-        stream: StreamRecord {
-            found: 1,
-            taken: 0,
-            next_row: total,
-        },
-        tests: g.tests,
+    file_first(cat, cells, keys, left, right, first)
+}
+
+// Whether there is no such table or row (19 at open, 13 in a record).
+fn missing(cat: Catalogue, scope: Scope) -> bool
+    requires { ⌜ Lawful cat mostCells ⌝ }
+    ensures { λ b. ⌜ b ≡ stray cat (askedOf scope) ⌝ }
+{
+    match scope {
+        Scope::Every => false,
+        Scope::With(t, r) => {
+            if r == 0 {
+                return true;
+            }
+            if t < cat.n {
+                if rows::rows_there(cat, t) < r as u64 {
+                    return true;
+                }
+                return false;
+            }
+            true
+        }
+    }
+}
+
+// What open gives where it is refused: a record of zeros.
+fn row_unopened(refusal: usize) -> RowOpenAnswer
+    ensures { λ r. ⌜ r ≡ record { opened = record { refusal = refusal; stream = record { found = 0; taken = 0; «next_row» = 0 }; tests = 0 }; table = 0; row = 0 } ⌝ }
+{
+    let opened = unopened(refusal);
+    RowOpenAnswer {
+        opened,
+        table: 0,
+        row: 0,
+    }
+}
+
+// Opens a stream of the sets that hold one row: that row alone, extended, becomes record 0 of the store.
+// Everything is checked before the first record is written.
+pub fn open_row(
+    cat: Catalogue,
+    cells: &[u64],
+    keys: &mut [u64],
+    left: &mut [u16],
+    right: &mut [u16],
+    table: usize,
+    row: usize,
+) -> RowOpenAnswer
+    ensures { λ r. ⌜ openedRow r (now (keys .exit)) (now (left .exit)) (now (right .exit)) ≡ openingRow cat (now (cells .entry)) (record { table = table; row = row }) (now (keys .entry)) (now (left .entry)) (now (right .entry)) ⌝ }
+{
+    let f = tables::fault(cat, cells.len());
+    if f != 0 {
+        return row_unopened(f);
+    }
+    if missing(cat, Scope::With(table, row)) {
+        return row_unopened(19);
+    }
+    let room = store::room(keys, left, right);
+    if room == 0 {
+        return row_unopened(12);
+    }
+    let opened = file_first(cat, cells, keys, left, right, Row { table, row });
+    RowOpenAnswer { opened, table, row }
+}
+
+// Whether a set, by its key, is asked for.
+fn wants(scope: Scope, key: u64) -> bool
+    requires { ⌜ Reached (askedOf scope) ⌝ }
+    ensures { λ b. ⌜ b ≡ keyWanted (askedOf scope) key ⌝ }
+{
+    match scope {
+        Scope::Every => true,
+        Scope::With(t, r) => {
+            if keys::row_of(key, t) == r as u64 {
+                return true;
+            }
+            false
+        }
     }
 }
 
@@ -147,13 +273,17 @@ fn fault(
     left: &[u16],
     right: &[u16],
     s: StreamRecord,
+    scope: Scope,
     padded: &[u64],
 ) -> usize
-    ensures { λ r. ⌜ r ≡ callFault cat (length (now (cells .entry))) (stateOf s (now (keys .entry)) (now (left .entry)) (now (right .entry))) (now (padded .entry)) ⌝ }
+    ensures { λ r. ⌜ r ≡ callFault cat (length (now (cells .entry))) (stateWith (askedOf scope) s (now (keys .entry)) (now (left .entry)) (now (right .entry))) (now (padded .entry)) ⌝ }
 {
     let f = tables::fault(cat, cells.len());
     if f != 0 {
         return f;
+    }
+    if missing(cat, scope) {
+        return 13;
     }
     if record_unfit(cat, keys, left, right, s) {
         return 13;
@@ -166,7 +296,7 @@ fn fault(
 }
 
 // The trial of the row at place next row on the set in record taken - 1.
-// Its end is an offer to the store, so that a refused trial leaves no mark.
+// Its end is an offer to the store, so that a refused trial leaves no mark; a set that is not asked for is not searched for.
 fn trial(
     cat: Catalogue,
     cells: &[u64],
@@ -175,9 +305,10 @@ fn trial(
     left: &mut [u16],
     right: &mut [u16],
     s: StreamRecord,
+    scope: Scope,
 ) -> Tried
-    requires { ⌜ Lawful cat (length (now cells)) × FirstCells cat firsts × Fit cat (stateOf s (now keys) (now left) (now right)) × (s .«next_row» < total cat) ⌝ }
-    ensures { λ r. ⌜ Tries cat (now (cells .entry)) s (now (keys .entry)) (now (left .entry)) (now (right .entry)) r (now (keys .exit)) (now (left .exit)) (now (right .exit)) ⌝ }
+    requires { ⌜ Lawful cat (length (now cells)) × FirstCells cat firsts × Fit cat (stateWith (askedOf scope) s (now keys) (now left) (now right)) × (s .«next_row» < total cat) ⌝ }
+    ensures { λ r. ⌜ Tries cat (now (cells .entry)) (askedOf scope) s (now (keys .entry)) (now (left .entry)) (now (right .entry)) r (now (keys .exit)) (now (left .exit)) (now (right .exit)) ⌝ }
 {
     let last = s.taken - 1;
     let key = keys[last];
@@ -186,8 +317,11 @@ fn trial(
     }
     let row = tables::row_at(cat, s.next_row);
     let g = sets::trial_set(cat, cells, firsts, key, row);
-    let deepest = keys::key_bits(cat.n);
     let found = s.found;
+    if !wants(scope, g.key) {
+        return Tried::Done(found, g.tests, 0);
+    }
+    let deepest = keys::key_bits(cat.n);
     match store::offer(keys, left, right, found, g.key, deepest) {
         Placed::Known { looks } => Tried::Done(found, g.tests, looks),
         Placed::Added { looks } => Tried::Done(found + 1, g.tests, looks),
@@ -262,11 +396,12 @@ fn work(
     left: &mut [u16],
     right: &mut [u16],
     s: StreamRecord,
+    scope: Scope,
     budget: usize,
     padded: &mut [u64],
 ) -> StepAnswer
-    requires { ⌜ Lawful cat (length (now cells)) × Fit cat (stateOf s (now keys) (now left) (now right)) × (cat .m ≤ length (now padded)) ⌝ }
-    ensures { λ r. ⌜ calledOf r (now (keys .exit)) (now (left .exit)) (now (right .exit)) (now (padded .exit)) ≡ work cat (now (cells .entry)) budget (stateOf s (now (keys .entry)) (now (left .entry)) (now (right .entry))) (now (padded .entry)) ⌝ }
+    requires { ⌜ Lawful cat (length (now cells)) × Fit cat (stateWith (askedOf scope) s (now keys) (now left) (now right)) × (cat .m ≤ length (now padded)) ⌝ }
+    ensures { λ r. ⌜ calledWith (askedOf scope) r (now (keys .exit)) (now (left .exit)) (now (right .exit)) (now (padded .exit)) ≡ work cat (now (cells .entry)) budget (stateWith (askedOf scope) s (now (keys .entry)) (now (left .entry)) (now (right .entry))) (now (padded .entry)) ⌝ }
 {
     let firsts = tables::first_cells(cat);
     let total = tables::total_rows(cat);
@@ -286,7 +421,7 @@ fn work(
         if spare == 0 {
             return told(Answer::Working, q, trials, tests, looks);
         }
-        match trial(cat, cells, firsts, keys, left, right, q) {
+        match trial(cat, cells, firsts, keys, left, right, q, scope) {
             Tried::Done(f, t, l) => {
                 found = f;
                 next_row = next_row + 1;
@@ -311,8 +446,29 @@ fn work(
     hand_out(cat, cells, keys, q, trials, tests, looks, padded)
 }
 
-// One call of an open stream with a budget of trials, the record by value.
+// One call of a stream, whatever it is asked for.
 // What may be refused before work is refused before anything changes.
+fn call(
+    cat: Catalogue,
+    cells: &[u64],
+    keys: &mut [u64],
+    left: &mut [u16],
+    right: &mut [u16],
+    stream: StreamRecord,
+    scope: Scope,
+    budget: usize,
+    padded: &mut [u64],
+) -> StepAnswer
+    ensures { λ r. ⌜ calledWith (askedOf scope) r (now (keys .exit)) (now (left .exit)) (now (right .exit)) (now (padded .exit)) ≡ call cat (now (cells .entry)) budget (stateWith (askedOf scope) stream (now (keys .entry)) (now (left .entry)) (now (right .entry))) (now (padded .entry)) ⌝ }
+{
+    let f = fault(cat, cells, keys, left, right, stream, scope, padded);
+    if f != 0 {
+        return told(Answer::Refused(f), stream, 0, 0, 0);
+    }
+    work(cat, cells, keys, left, right, stream, scope, budget, padded)
+}
+
+// One call of an open stream with a budget of trials, the record by value.
 pub fn step(
     cat: Catalogue,
     cells: &[u64],
@@ -325,9 +481,37 @@ pub fn step(
 ) -> StepAnswer
     ensures { λ r. ⌜ calledOf r (now (keys .exit)) (now (left .exit)) (now (right .exit)) (now (padded .exit)) ≡ call cat (now (cells .entry)) budget (stateOf stream (now (keys .entry)) (now (left .entry)) (now (right .entry))) (now (padded .entry)) ⌝ }
 {
-    let f = fault(cat, cells, keys, left, right, stream, padded);
-    if f != 0 {
-        return told(Answer::Refused(f), stream, 0, 0, 0);
-    }
-    work(cat, cells, keys, left, right, stream, budget, padded)
+    call(
+        cat,
+        cells,
+        keys,
+        left,
+        right,
+        stream,
+        Scope::Every,
+        budget,
+        padded,
+    )
+}
+
+// One call of a stream of the sets that hold one row.
+// Its trials are those of any stream; those whose set lacks the row make no search.
+pub fn step_row(
+    cat: Catalogue,
+    cells: &[u64],
+    keys: &mut [u64],
+    left: &mut [u16],
+    right: &mut [u16],
+    stream: RowRecord,
+    budget: usize,
+    padded: &mut [u64],
+) -> RowStepAnswer
+    ensures { λ r. ⌜ calledRow r (now (keys .exit)) (now (left .exit)) (now (right .exit)) (now (padded .exit)) ≡ call cat (now (cells .entry)) budget (rowStateOf stream (now (keys .entry)) (now (left .entry)) (now (right .entry))) (now (padded .entry)) ⌝ }
+{
+    let table = stream.table;
+    let row = stream.row;
+    let before = stream.stream;
+    let scope = Scope::With(table, row);
+    let step = call(cat, cells, keys, left, right, before, scope, budget, padded);
+    RowStepAnswer { step, table, row }
 }

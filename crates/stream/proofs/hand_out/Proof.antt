@@ -7,7 +7,7 @@ use Rattle.rows.proofs.NamedLaws.{named-iff}
 use borrow.Author.Tests.{not-true, not-false}
 use Rattle.padding.specs.Padding.{paddedRow}
 use Rattle.machine.proofs.LoopLaws.{loop-finished, loop-set, loop-lost}
-use Rattle.stream.specs.Promises.{stateOf}
+use Rattle.stream.specs.Promises.{stateWith}
 use Rattle.stream.proofs.hand_out.Statement.{statement}
 use Rattle.stream.proofs.hand_out.Tie as tie
 
@@ -18,7 +18,7 @@ returns : tie.Need-returns
 returns c =
     let a = c .before .before .before .before .before .before .args in
     let p = c .before .before .before .before .before .before .pre in
-    record { same = λ b ls rs. rw (c .told .ensures) (sym (loop-finished (a .cat) (a .cells .now) (a .padded .now) (a .trials) (a .tests) (a .looks) b (stateOf (a .s) (a .keys .now) ls rs) (p .1) (c .before .if1 .taken))) }
+    record { same = λ v b ls rs. rw (c .told .ensures) (sym (loop-finished (a .cat) (a .cells .now) (a .padded .now) (a .trials) (a .tests) (a .looks) b (stateWith v (a .s) (a .keys .now) ls rs) (p .1) (c .before .if1 .taken))) }
 
 mul-key : tie.Need-mul-key
 mul-key c = search needs
@@ -36,7 +36,7 @@ returns-2 : tie.Need-returns-2
 returns-2 c =
     let a = c .before .before .before .before .before .before .before .before .before .args in
     let p = c .before .before .before .before .before .before .before .before .before .pre in
-    record { same = λ b ls rs. rw (c .told2 .ensures) (sym (loop-lost (a .cat) (a .cells .now) (a .padded .now) (a .trials) (a .tests) (a .looks) b (stateOf (a .s) (a .keys .now) ls rs) (p .1) (c .before .before .before .before .if1 .left) (sym (c .before .before .key-named .ensures) ∙ not-true _ (c .before .if2 .taken)))) }
+    record { same = λ v b ls rs. rw (c .told2 .ensures) (sym (loop-lost (a .cat) (a .cells .now) (a .padded .now) (a .trials) (a .tests) (a .looks) b (stateWith v (a .s) (a .keys .now) ls rs) (p .1) (c .before .before .before .before .if1 .left) (sym (c .before .before .key-named .ensures) ∙ not-true _ (c .before .if2 .taken)))) }
 
 pad-requires : tie.Need-pad-requires
 pad-requires c κs =
@@ -54,7 +54,7 @@ unfolding paddedRow
 returns-3 c =
     let a = c .before .before .before .before .before .before .before .before .before .before .before .before .args in
     let p = c .before .before .before .before .before .before .before .before .before .before .before .before .pre in
-    record { same = λ b ls rs. rw (c .before .before .pad .ensures) (sym (loop-set (a .cat) (a .cells .now) (a .padded .now) (a .trials) (a .tests) (a .looks) b (stateOf (a .s) (a .keys .now) ls rs) (p .1) (c .before .before .before .before .before .before .before .if1 .left) (sym (c .before .before .before .before .before .key-named .ensures) ∙ not-false _ (c .before .before .before .before .if2 .left)))) }
+    record { same = λ v b ls rs. rw (c .before .before .pad .ensures) (sym (loop-set (a .cat) (a .cells .now) (a .padded .now) (a .trials) (a .tests) (a .looks) b (stateWith v (a .s) (a .keys .now) ls rs) (p .1) (c .before .before .before .before .before .before .before .if1 .left) (sym (c .before .before .before .before .before .key-named .ensures) ∙ not-false _ (c .before .before .before .before .if2 .left)))) }
 
 pub hand-out-spec : {M : Type 1} → statement M
 hand-out-spec =

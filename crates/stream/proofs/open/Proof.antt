@@ -1,15 +1,16 @@
--- `stream::open` meets its contract: the refusals in their order, the empty stream, and the first row alone, extended and filed. Assumes nothing.
+-- `stream::open` meets its contract: the refusals in their order, the empty stream, and the first row filed. Assumes nothing.
 use native.Mathlib.Omega.{arith}
 use Prim.Native.Nat.{_-_, _<_}
 use mathlib.Core.Path.{_≡_, sym, _∙_}
 use borrow.Author.Needs.{needs}
 use Rattle.tables.proofs.CatalogueLaws.{lawful-all}
 use Rattle.tables.proofs.CheckLaws.{fault-lawful}
-use Rattle.rows.proofs.NamedLaws.{place-there, row-small}
+use Rattle.disjunction.specs.Asked.{everySet}
+use Rattle.rows.proofs.NamedLaws.{place-there}
+use Rattle.rows.proofs.WorldLaws.{row-place}
 use Rattle.machine.proofs.RefusalLaws.{open-catalogue, open-full, open-free, opening-refused, opening-empty, opening-begun}
-use Rattle.stream.proofs.StreamLaws.{alone-named, first-grown}
 use Rattle.tables.specs.Catalogues.{total}
-use Rattle.store.specs.Store.{storeIn, filed}
+use Rattle.store.specs.Store.{storeIn}
 use Rattle.stream.proofs.open.Statement.{statement}
 use Rattle.stream.proofs.open.Tie as tie
 
@@ -23,7 +24,7 @@ returns : tie.Need-returns
 returns c =
     let e = c .before .before .fault .ensures in
     let k : c .before .before .fault .result ≡ 0 → ⊥ = c .before .if1 .taken in
-    rw (c .unopened .ensures) (sym (opening-refused _ _ _ _ _ _ (open-catalogue _ _ _ (λ z. k (e ∙ z)) ∙ sym e) k))
+    rw (c .unopened .ensures) (sym (opening-refused _ _ _ _ _ _ _ (open-catalogue _ _ _ _ (λ z. k (e ∙ z)) ∙ sym e) k))
 
 total-rows-requires : tie.Need-total-rows-requires
 total-rows-requires c κs = lawful-all _ _ (fault-lawful _ _ (sym (c .before .fault .ensures) ∙ c .if1 .left))
@@ -35,7 +36,7 @@ returns-2 : tie.Need-returns-2
 returns-2 c =
     let L = fault-lawful _ _ (sym (c .before .before .before .before .fault .ensures) ∙ c .before .before .before .if1 .left) in
     let z = sym (c .before .before .total-rows .ensures) ∙ c .before .if2 .taken in
-    rw (c .unopened2 .ensures) (sym (opening-empty _ _ _ _ _ (open-free _ _ _ L (λ h. absurd (omega (arith, z)))) z))
+    rw (c .unopened2 .ensures) (sym (opening-empty _ _ _ _ _ _ (open-free _ _ _ _ L tt (λ h. absurd (omega (arith, z)))) z))
 
 room-requires : tie.Need-room-requires
 room-requires c κs = search needs
@@ -56,30 +57,17 @@ returns-3 : tie.Need-returns-3
 returns-3 c =
     let L = fault-lawful _ _ (sym (c .before .before .before .before .before .before .before .before .before .fault .ensures) ∙ c .before .before .before .before .before .before .before .before .if1 .left) in
     let h : 0 < total (c .before .before .before .before .before .before .before .before .before .before .before .before .before .before .args .cat) = omega (arith, c .before .before .before .before .before .before .before .total-rows .ensures, c .before .before .before .before .before .before .if2 .left) in
-    rw (c .unopened3 .ensures) (sym (opening-refused _ _ _ _ _ 12 (open-full _ _ _ L h (sym (c .before .before .room .ensures) ∙ c .before .if3 .taken)) (λ z. omega arith)))
+    rw (c .unopened3 .ensures) (sym (opening-refused _ _ _ _ _ _ 12 (open-full _ _ _ _ L tt h (sym (c .before .before .room .ensures) ∙ c .before .if3 .taken)) (λ z. omega arith)))
 
 row-at-requires : tie.Need-row-at-requires
 row-at-requires c κs = (lawful-all _ _ (fault-lawful _ _ (sym (c .before .before .before .before .before .before .before .before .fault .ensures) ∙ c .before .before .before .before .before .before .before .if1 .left)), omega (arith, c .before .before .before .before .before .before .total-rows .ensures, c .before .before .before .before .before .if2 .left))
 
-with-row-requires : tie.Need-with-row-requires
-with-row-requires c κs =
-    let L = fault-lawful _ _ (sym (c .before .before .before .before .before .before .before .before .before .fault .ensures) ∙ c .before .before .before .before .before .before .before .before .if1 .left) in
-    let h : 0 < total (c .before .before .before .before .before .before .before .before .before .before .before .before .before .before .args .cat) = omega (arith, c .before .before .before .before .before .before .before .total-rows .ensures, c .before .before .before .before .before .before .if2 .left) in
-    let x = place-there (c .before .before .before .before .before .before .before .before .before .before .before .before .before .before .args .cat) (c .before .before .before .before .before .before .before .before .before .before .before .before .before .before .args .cells .now) 0 h in
-    rw (c .row-at .ensures) (omega (arith, x .table, L .tables), row-small _ _ L _ _ x)
-
-first-cells-requires : tie.Need-first-cells-requires
-first-cells-requires c κs = lawful-all _ _ (fault-lawful _ _ (sym (c .before .before .before .before .before .before .before .before .before .before .fault .ensures) ∙ c .before .before .before .before .before .before .before .before .before .if1 .left))
-
-extend-requires : tie.Need-extend-requires
-extend-requires c κs =
-    let L = fault-lawful _ _ (sym (c .before .before .before .before .before .before .before .before .before .before .before .fault .ensures) ∙ c .before .before .before .before .before .before .before .before .before .before .if1 .left) in
-    let h : 0 < total (c .before .before .before .before .before .before .before .before .before .before .before .before .before .before .before .before .args .cat) = omega (arith, c .before .before .before .before .before .before .before .before .before .total-rows .ensures, c .before .before .before .before .before .before .before .before .if2 .left) in
-    let x = place-there (c .before .before .before .before .before .before .before .before .before .before .before .before .before .before .before .before .args .cat) (c .before .before .before .before .before .before .before .before .before .before .before .before .before .before .before .before .args .cells .now) 0 h in
-    (L, c .first-cells .ensures, rw (c .before .with-row .ensures, c .before .before .row-at .ensures) (alone-named _ _ _ x (row-small _ _ L _ _ x)))
-
-file-record-requires : tie.Need-file-record-requires
-file-record-requires c κs = omega (arith, c .before .before .before .before .before .before .before .before .room .ensures, c .before .before .before .before .before .before .before .if3 .left)
+file-first-requires : tie.Need-file-first-requires
+file-first-requires c κs =
+    let a = c .before .before .before .before .before .before .before .before .before .before .before .before .before .before .before .before .before .args in
+    let L = fault-lawful _ _ (sym (c .before .before .before .before .before .before .before .before .before .before .before .before .fault .ensures) ∙ c .before .before .before .before .before .before .before .before .before .before .before .if1 .left) in
+    let h : 0 < total (a .cat) = omega (arith, c .before .before .before .before .before .before .before .before .before .before .total-rows .ensures, c .before .before .before .before .before .before .before .before .before .if2 .left) in
+    (L, rw (c .before .before .before .row-at .ensures) (place-there (a .cat) (a .cells .now) 0 h), omega (arith, c .before .before .before .before .before .room .ensures, c .before .before .before .before .if3 .left))
 
 same-length-4 : tie.Need-same-length-4
 same-length-4 c = search needs
@@ -91,19 +79,14 @@ same-length-6 : tie.Need-same-length-6
 same-length-6 c = search needs
 
 returns-4 : tie.Need-returns-4
-unfolding filed
 returns-4 c =
-    let a = c .before .before .before .before .before .before .before .before .before .before .before .before .before .before .before .before .before .before .before .before .before .before .before .before .before .before .before .args in
-    let L = fault-lawful _ _ (sym (c .before .before .before .before .before .before .before .before .before .before .before .before .before .before .before .before .before .before .before .before .before .before .fault .ensures) ∙ c .before .before .before .before .before .before .before .before .before .before .before .before .before .before .before .before .before .before .before .before .before .if1 .left) in
-    let t = c .before .before .before .before .before .before .before .before .before .before .before .before .before .before .before .before .before .before .before .before .total-rows .ensures in
-    let h : 0 < total (a .cat) = omega (arith, c .before .before .before .before .before .before .before .before .before .before .before .before .before .before .before .before .before .before .before .before .total-rows .ensures, c .before .before .before .before .before .before .before .before .before .before .before .before .before .before .before .before .before .before .before .if2 .left) in
-    let r = c .before .before .before .before .before .before .before .before .before .before .before .before .before .before .before .room .ensures in
-    let f = open-free (a .cat) _ (storeIn (a .keys .now) (a .left .now) (a .right .now) 0) L (λ z. omega (arith, r, c .before .before .before .before .before .before .before .before .before .before .before .before .before .before .if3 .left)) in
-    let g = rw (c .before .before .before .before .before .before .before .before .before .before .before .before .with-row .ensures, c .before .before .before .before .before .before .before .before .before .before .before .before .before .row-at .ensures, first-grown (a .cat) (a .cells .now) _ L h) at (c .before .before .before .before .before .before .before .before .before .before .extend .ensures) in
-    let k = g .key in
-    let n = g .tests in
-    let o = c .before .before .before .before .before .before .file-record .ensures in
-    rw (o .keys, o .left, o .right, k, n, t) (sym (opening-begun (a .cat) (a .cells .now) _ _ _ f h))
+    let a = c .before .before .before .before .before .before .before .before .before .before .before .before .before .before .before .before .before .before .before .before .before .before .before .before .args in
+    let L = fault-lawful _ _ (sym (c .before .before .before .before .before .before .before .before .before .before .before .before .before .before .before .before .before .before .before .fault .ensures) ∙ c .before .before .before .before .before .before .before .before .before .before .before .before .before .before .before .before .before .before .if1 .left) in
+    let h : 0 < total (a .cat) = omega (arith, c .before .before .before .before .before .before .before .before .before .before .before .before .before .before .before .before .before .total-rows .ensures, c .before .before .before .before .before .before .before .before .before .before .before .before .before .before .before .before .if2 .left) in
+    let r = c .before .before .before .before .before .before .before .before .before .before .before .before .room .ensures in
+    let f = open-free (a .cat) _ everySet (storeIn (a .keys .now) (a .left .now) (a .right .now) 0) L tt (λ z. omega (arith, r, c .before .before .before .before .before .before .before .before .before .before .before .if3 .left)) in
+    let x = rw (row-place (a .cat) (a .cells .now) 0 h) at (opening-begun (a .cat) (a .cells .now) everySet (a .keys .now) (a .left .now) (a .right .now) f h) in
+    (rw (c .before .before .before .before .before .before .before .before .before .before .row-at .ensures) at (c .before .before .before .before .before .before .file-first .ensures .same everySet)) ∙ sym x
 
 pub open-spec : {M : Type 1} → statement M
 open-spec =
@@ -122,10 +105,7 @@ open-spec =
     same-length-3
     returns-3
     row-at-requires
-    with-row-requires
-    first-cells-requires
-    extend-requires
-    file-record-requires
+    file-first-requires
     same-length-4
     same-length-5
     same-length-6

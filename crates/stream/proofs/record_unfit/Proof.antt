@@ -49,6 +49,7 @@ returns-4 c =
       begun = λ z. omega (arith, t, c .before .before .if4 .taken, c .before .before .before .if3 .left);
       some = λ p. absurd (omega (arith, t, c .before .before .if4 .taken));
       none = λ z. c .if5 .taken;
+      asked = tt;
     } in
     sym (unfit-iff _ _ .1 f)
 
@@ -79,6 +80,7 @@ returns-7 c =
       begun = λ z. c .if8 .taken ∙ t;
       some = λ p. omega (arith, c .before .before .before .before .if6 .left);
       none = λ z. absurd (c .before .before .before .before .before .before .if4 .left (t ∙ z));
+      asked = tt;
     } in
     sym (unfit-iff _ _ .1 f)
 
@@ -102,6 +104,7 @@ returns-9 c =
       begun = λ z. absurd (c .if7 .left z);
       some = λ p. omega (arith, c .before .before .if6 .left);
       none = λ z. absurd (c .before .before .before .before .if4 .left (t ∙ z));
+      asked = tt;
     } in
     sym (unfit-iff _ _ .1 f)
 

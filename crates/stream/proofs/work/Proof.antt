@@ -7,26 +7,26 @@ use lib.ListN.{length}
 use native.Mathlib.Nat.{le-antisymm}
 use Rattle.tables.specs.Catalogues.{total}
 use Rattle.tables.proofs.CatalogueLaws.{lawful-all}
-use Rattle.machine.specs.Machine.{stateIn, Fit, done, trialOn, work}
+use Rattle.machine.specs.Machine.{stateFor, Fit, done, trialOn, work}
 use Rattle.machine.proofs.TrialLaws.{trial-fit}
 use Rattle.machine.proofs.CountLaws.{counts-small}
 use Rattle.machine.specs.Machine.{piled}
 use Rattle.machine.proofs.LoopLaws.{piled-none, loop-working, loop-full, loop-damaged, loop-on}
-use Rattle.stream.specs.Promises.{stateOf}
+use Rattle.stream.specs.Promises.{askedOf, stateWith}
 use Rattle.stream.proofs.StreamLaws.{keys-long}
 use Rattle.stream.proofs.work.Statement.{statement}
 use Rattle.stream.proofs.work.Tie as tie
 
 abbrev Inv-loop : tie.InvT-loop
-Inv-loop cat cells keys₀ left₀ right₀ budget padded firsts total taken found₀ next-row₀ spare₀ trials₀ tests₀ looks₀ keys left right found next-row spare trials tests looks =
-    Fit cat (stateIn keys left right found taken next-row)
-    × (work cat cells budget (stateIn keys₀ left₀ right₀ found₀ taken next-row₀) padded ≡ piled trials tests looks (work cat cells spare (stateIn keys left right found taken next-row) padded))
+Inv-loop cat cells keys₀ left₀ right₀ scope budget padded firsts total taken found₀ next-row₀ spare₀ trials₀ tests₀ looks₀ keys left right found next-row spare trials tests looks =
+    Fit cat (stateFor (askedOf scope) keys left right found taken next-row)
+    × (work cat cells budget (stateFor (askedOf scope) keys₀ left₀ right₀ found₀ taken next-row₀) padded ≡ piled trials tests looks (work cat cells spare (stateFor (askedOf scope) keys left right found taken next-row) padded))
     × (length keys ≡ length keys₀)
     × (length left ≡ length left₀)
     × (length right ≡ length right₀)
 
 abbrev μ-loop : tie.MeasureT-loop
-μ-loop cat cells keys₀ left₀ right₀ budget padded firsts total taken found₀ next-row₀ spare₀ trials₀ tests₀ looks₀ keys left right found next-row spare trials tests looks = total - next-row
+μ-loop cat cells keys₀ left₀ right₀ scope budget padded firsts total taken found₀ next-row₀ spare₀ trials₀ tests₀ looks₀ keys left right found next-row spare trials tests looks = total - next-row
 
 -- Where a trial was done: the whole call is these counts, and what is left of it.
 goes : (c : tie.After-known-told Inv-loop μ-loop)
@@ -34,18 +34,18 @@ goes : (c : tie.After-known-told Inv-loop μ-loop)
     let a = c .before .before .before .before .before .before .before .before .before .before .before .before .before .before .before .before .before .before .before .before .before .before .before .args in
     let d = c .before .f .given .0 in
     let k = c .before .before .before .before .before .before .before .before .before .trial .last .1 .1 .1 in
-    (Fit (a .cat) (stateIn (k .0) (k .1 .0) (k .1 .1 .0) (d .0) (a .s .taken) (l .next-row + 1)))
-    × (work (a .cat) (a .cells .now) (a .budget) (stateOf (a .s) (a .keys .now) (a .left .now) (a .right .now)) (a .padded .now)
+    (Fit (a .cat) (stateFor (askedOf (a .scope)) (k .0) (k .1 .0) (k .1 .1 .0) (d .0) (a .s .taken) (l .next-row + 1)))
+    × (work (a .cat) (a .cells .now) (a .budget) (stateWith (askedOf (a .scope)) (a .s) (a .keys .now) (a .left .now) (a .right .now)) (a .padded .now)
     ≡ piled (l .trials + 1) (l .tests + d .1 .0) (l .looks + d .1 .1 .0)
-    (work (a .cat) (a .cells .now) (l .spare - 1) (stateIn (k .0) (k .1 .0) (k .1 .1 .0) (d .0) (a .s .taken) (l .next-row + 1)) (a .padded .now)))
+    (work (a .cat) (a .cells .now) (l .spare - 1) (stateFor (askedOf (a .scope)) (k .0) (k .1 .0) (k .1 .1 .0) (d .0) (a .s .taken) (l .next-row + 1)) (a .padded .now)))
 goes c =
     let l = c .before .before .before .before .before .before .before .before .before .before .before .before .before .before .before .loop in
     let a = c .before .before .before .before .before .before .before .before .before .before .before .before .before .before .before .before .before .before .before .before .before .before .before .args in
     let n = c .before .before .before .before .before .before .before .before .before .before .before .before .before .before .before .before .total-rows .ensures in
     let d = c .before .f .given .0 in
     let k = c .before .before .before .before .before .before .before .before .before .trial .last .1 .1 .1 in
-    let e : trialOn (a .cat) (a .cells .now) (stateIn (l .keys) (l .left) (l .right) (l .found) (a .s .taken) (l .next-row))
-    ≡ done (stateIn (k .0) (k .1 .0) (k .1 .1 .0) (d .0) (a .s .taken) (l .next-row + 1)) (d .1 .0) (d .1 .1 .0) =
+    let e : trialOn (a .cat) (a .cells .now) (stateFor (askedOf (a .scope)) (l .keys) (l .left) (l .right) (l .found) (a .s .taken) (l .next-row))
+    ≡ done (stateFor (askedOf (a .scope)) (k .0) (k .1 .0) (k .1 .1 .0) (d .0) (a .s .taken) (l .next-row + 1)) (d .1 .0) (d .1 .1 .0) =
     rw (c .before .f .given .1) at (c .before .before .before .before .before .before .before .before .before .trial .ensures .same) in
     let h : l .next-row < total (a .cat) = omega (arith, n, c .before .before .before .before .before .before .before .before .before .before .before .before .before .before .loop-test .taken) in (
       trial-fit (a .cat) (a .cells .now) _ _ _ _ (l .inv .0) h e .1,
@@ -198,7 +198,7 @@ same-length-13 c = search needs
 returns-4 : tie.Need-returns-4 Inv-loop μ-loop
 returns-4 c =
     let l = c .before .before .before .before .before .before .loop in
-    c .before .before .hand-out .ensures .same (l .spare) (l .left) (l .right) ∙ sym (l .inv .1)
+    c .before .before .hand-out .ensures .same _ (l .spare) (l .left) (l .right) ∙ sym (l .inv .1)
 
 pub work-spec : {M : Type 1} → statement M
 work-spec =

@@ -1,10 +1,10 @@
--- `stream::step` meets its contract: a refusal before work, or the work. Assumes nothing.
+-- `stream::call` meets its contract: a refusal before work, or the work. Assumes nothing.
 use Prim.Native.Nat.{_-_}
 use mathlib.Core.Path.{sym, _∙_}
 use borrow.Author.Needs.{needs}
 use Rattle.machine.proofs.RefusalLaws.{call-clear, call-refused, call-works}
-use Rattle.stream.proofs.step.Statement.{statement}
-use Rattle.stream.proofs.step.Tie as tie
+use Rattle.stream.proofs.call.Statement.{statement}
+use Rattle.stream.proofs.call.Tie as tie
 
 fault-requires : tie.Need-fault-requires
 fault-requires c κs = search needs
@@ -47,8 +47,8 @@ same-length-8 c = search needs
 returns-2 : tie.Need-returns-2
 returns-2 c = c .before .before .before .before .before .before .before .before .work .ensures ∙ sym (call-works _ _ _ _ _ (sym (c .before .before .before .before .before .before .before .before .before .before .before .before .before .before .fault .ensures) ∙ c .before .before .before .before .before .before .before .before .before .before .before .before .before .if1 .left))
 
-pub step-spec : {M : Type 1} → statement M
-step-spec =
+pub call-spec : {M : Type 1} → statement M
+call-spec =
     tie.close
     (tie.spec
     fault-requires
