@@ -1,6 +1,7 @@
 pub mod Live
 pub mod Calls
 pub mod Opens
+pub mod Searching
 pub mod Exact
 pub mod Runs
 pub mod Steps
@@ -8,6 +9,9 @@ pub mod Holding
 pub mod Demanded
 pub mod Copies
 pub mod Longers
+pub mod Alike
+pub mod Trimmed
+pub mod Refused
 pub mod Frauds
 pub mod Edged
 pub mod Determined

@@ -6,3 +6,6 @@ pub mod CatalogueRefusals
 pub mod WriteRefusals
 pub mod CallRefusals
 pub mod Images
+pub mod Frauds
+pub mod Ignored
+pub mod Unchanged
