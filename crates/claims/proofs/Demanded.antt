@@ -24,7 +24,7 @@ use Rattle.disjunction.proofs.CellLaws.{padded-long, padded-embedding}
 use Rattle.rows.specs.World.{cellsIn, worldOf, setOf}
 use Rattle.rows.proofs.WorldLaws.{world-tables}
 use Rattle.store.specs.Store.{storeIn, roomIn}
-use Rattle.machine.specs.Machine.{State, keyAt, deepest, Says, aSet, finished, refused, Called, paddedIn, work, call, openingFor, opening, openingRow}
+use Rattle.machine.specs.Machine.{State, keyAt, deepest, Says, aSet, finished, refused, Called, paddedIn, work, call, openingFor, opening, openingHolding}
 use Rattle.machine.specs.Runs.{Given, runOf, keysIn, handed, sum}
 use Rattle.machine.proofs.WorkLaws.{work-ends, work-hands, RowBy}
 use Rattle.claims.specs.Demands.{Answered, Closes, Able, made, Padded, Holds, goesOn, Gap, Demand2, Demand3, Demands}
@@ -232,9 +232,9 @@ module _ (cat : Catalogue) (cells : List ℕ) where
     pub once : Distinct keys
     pub exactly : (T : List ℕ) → (Maximal (worldOf cat cells) T × (at T (s .table) ≡ s .row)) ↔ (List·Memᴰ (keyOf bitsPerRow T) keys × (setOf cat (keyOf bitsPerRow T) ≡ T))
 
-  pub row-drained : (s : Place) (k l r : List ℕ) → openingRow cat cells s k l r .refusal ≡ 0 → (gs : List Given)
-      → Answered finished (runOf (call cat cells) gs (openingRow cat cells s k l r .after))
-      → RowDrained s (handed (runOf (call cat cells) gs (openingRow cat cells s k l r .after)))
+  pub row-drained : (s : Place) (k l r : List ℕ) → openingHolding cat cells s k l r .refusal ≡ 0 → (gs : List Given)
+      → Answered finished (runOf (call cat cells) gs (openingHolding cat cells s k l r .after))
+      → RowDrained s (handed (runOf (call cat cells) gs (openingHolding cat cells s k l r .after)))
   row-drained s k l r e gs f =
       let d = demands cat cells (everyWith s) k l r e .0 in
       record {

@@ -11,17 +11,15 @@ use Rattle.image.specs.Load.{Loads}
 use Rattle.image.specs.Write.{Writes}
 use Rattle.door.specs.Door.{checkOf}
 use Rattle.padding.specs.Covering.{covering}
-use Rattle.disjunction.specs.Rule.{Place}
-use Rattle.machine.specs.Machine.{call, opening, openingRow}
 use Rattle.stream.specs.declared.StreamRecord.{StreamRecord}
 use Rattle.stream.specs.declared.OpenAnswer.{OpenAnswer}
 use Rattle.stream.specs.declared.StepAnswer.{StepAnswer}
-use Rattle.stream.specs.declared.RowRecord.{RowRecord}
-use Rattle.stream.specs.declared.RowOpenAnswer.{RowOpenAnswer}
-use Rattle.stream.specs.declared.RowStepAnswer.{RowStepAnswer}
-use Rattle.stream.specs.Promises.{stateOf, calledOf, openedOf, rowStateOf, calledRow, openedRow}
+use Rattle.stream.specs.declared.HoldingRecord.{HoldingRecord}
+use Rattle.stream.specs.declared.HoldingOpenAnswer.{HoldingOpenAnswer}
+use Rattle.stream.specs.declared.HoldingStepAnswer.{HoldingStepAnswer}
+use Rattle.stream.specs.Promises.{Opens, Steps, OpensHolding, StepsHolding}
 use Rattle.harbour.specs.declared.NextAnswer.{NextAnswer}
-use Rattle.harbour.specs.Answers.{withRecord}
+use Rattle.harbour.specs.Answers.{Nexts, NextsHolding}
 
 -- One field for each public call: two outcomes that meet its promise are one.
 pub record OneOutcome : Type 0 where
@@ -29,24 +27,27 @@ pub record OneOutcome : Type 0 where
   pub write : (cat : Catalogue) (cells lent : List ℕ) (r r′ : Written) (after after′ : List ℕ)
       → Writes cat cells lent r after → Writes cat cells lent r′ after′ → (r ≡ r′) × (after ≡ after′)
   pub «open» : (cat : Catalogue) (cells keys left right : List ℕ) (r r′ : OpenAnswer) (ks ls rs ks′ ls′ rs′ : List ℕ)
-      → openedOf r ks ls rs ≡ opening cat cells keys left right → openedOf r′ ks′ ls′ rs′ ≡ opening cat cells keys left right
+      → Opens cat cells keys left right r ks ls rs → Opens cat cells keys left right r′ ks′ ls′ rs′
       → (r ≡ r′) × (ks ≡ ks′) × (ls ≡ ls′) × (rs ≡ rs′)
   pub step : (cat : Catalogue) (cells : List ℕ) (s : StreamRecord) (keys left right row : List ℕ) (b : ℕ)
       (r r′ : StepAnswer) (ks ls rs w ks′ ls′ rs′ w′ : List ℕ)
-      → calledOf r ks ls rs w ≡ call cat cells b (stateOf s keys left right) row → calledOf r′ ks′ ls′ rs′ w′ ≡ call cat cells b (stateOf s keys left right) row
+      → Steps cat cells keys left right s b row r ks ls rs w → Steps cat cells keys left right s b row r′ ks′ ls′ rs′ w′
       → (r ≡ r′) × (ks ≡ ks′) × (ls ≡ ls′) × (rs ≡ rs′) × (w ≡ w′)
   pub next : (cat : Catalogue) (cells : List ℕ) (s : StreamRecord) (keys left right row : List ℕ) (b : ℕ)
       (r r′ : NextAnswer) (q q′ : StreamRecord) (ks ls rs w ks′ ls′ rs′ w′ : List ℕ)
-      → calledOf (withRecord r q) ks ls rs w ≡ call cat cells b (stateOf s keys left right) row
-      → calledOf (withRecord r′ q′) ks′ ls′ rs′ w′ ≡ call cat cells b (stateOf s keys left right) row
+      → Nexts cat cells keys left right s b row r q ks ls rs w → Nexts cat cells keys left right s b row r′ q′ ks′ ls′ rs′ w′
       → (r ≡ r′) × (q ≡ q′) × (ks ≡ ks′) × (ls ≡ ls′) × (rs ≡ rs′) × (w ≡ w′)
-  pub «open_row» : (cat : Catalogue) (cells : List ℕ) (s : Place) (keys left right : List ℕ) (r r′ : RowOpenAnswer) (ks ls rs ks′ ls′ rs′ : List ℕ)
-      → openedRow r ks ls rs ≡ openingRow cat cells s keys left right → openedRow r′ ks′ ls′ rs′ ≡ openingRow cat cells s keys left right
+  pub «open_holding» : (cat : Catalogue) (cells : List ℕ) (table row : ℕ) (keys left right : List ℕ)
+      (r r′ : HoldingOpenAnswer) (ks ls rs ks′ ls′ rs′ : List ℕ)
+      → OpensHolding cat cells keys left right table row r ks ls rs → OpensHolding cat cells keys left right table row r′ ks′ ls′ rs′
       → (r ≡ r′) × (ks ≡ ks′) × (ls ≡ ls′) × (rs ≡ rs′)
-  pub «step_row» : (cat : Catalogue) (cells : List ℕ) (s : RowRecord) (keys left right row : List ℕ) (b : ℕ)
-      (r r′ : RowStepAnswer) (ks ls rs w ks′ ls′ rs′ w′ : List ℕ)
-      → calledRow r ks ls rs w ≡ call cat cells b (rowStateOf s keys left right) row
-      → calledRow r′ ks′ ls′ rs′ w′ ≡ call cat cells b (rowStateOf s keys left right) row
+  pub «step_holding» : (cat : Catalogue) (cells : List ℕ) (s : HoldingRecord) (keys left right row : List ℕ) (b : ℕ)
+      (r r′ : HoldingStepAnswer) (ks ls rs w ks′ ls′ rs′ w′ : List ℕ)
+      → StepsHolding cat cells keys left right s b row r ks ls rs w → StepsHolding cat cells keys left right s b row r′ ks′ ls′ rs′ w′
       → (r ≡ r′) × (ks ≡ ks′) × (ls ≡ ls′) × (rs ≡ rs′) × (w ≡ w′)
+  pub «next_holding» : (cat : Catalogue) (cells : List ℕ) (s : HoldingRecord) (keys left right row : List ℕ) (b : ℕ)
+      (r r′ : NextAnswer) (q q′ : HoldingRecord) (ks ls rs w ks′ ls′ rs′ w′ : List ℕ)
+      → NextsHolding cat cells keys left right s b row r q ks ls rs w → NextsHolding cat cells keys left right s b row r′ q′ ks′ ls′ rs′ w′
+      → (r ≡ r′) × (q ≡ q′) × (ks ≡ ks′) × (ls ≡ ls′) × (rs ≡ rs′) × (w ≡ w′)
   pub covers : (first second : List ℕ) (r r′ : Bool) → r ≡ covering first second → r′ ≡ covering first second → r ≡ r′
   pub check : (s : List ℕ) (r r′ : ℕ) → r ≡ checkOf s → r′ ≡ checkOf s → r ≡ r′

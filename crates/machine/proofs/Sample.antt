@@ -18,7 +18,7 @@ use Rattle.rows.specs.World.{touchesIn, fitsIn}
 use Rattle.rows.specs.Named.{missing, beyond, named, rowsThere}
 use Rattle.store.specs.Store as Store
 use Rattle.store.specs.Store.{linkOf, searchOf, filed, added, answerOf, storeAfter}
-use Rattle.machine.specs.Machine.{placed, offered, trialOn, Says, aSet, finished, refused, Called, handOut, dueOr, work, unfit, callFault, call, Opened, openFault, begun, opening, openingRow, openingFor}
+use Rattle.machine.specs.Machine.{placed, offered, trialOn, Says, aSet, finished, refused, Called, handOut, dueOr, work, unfit, callFault, call, Opened, openFault, begun, opening, openingHolding, openingFor}
 use Rattle.machine.specs.Runs.{Given, runOf, handed, sum}
 
 -- "Input, 25 bytes": three tables over the attributes {0,1}, {1,2} and {0,2}, each with two rows.
@@ -71,7 +71,7 @@ calls c = runOf (call three threeCells) (asked ∷ asked ∷ asked ∷ asked ∷
 
 -- The same, asked for the sets that hold row r of table t (#109), in a store of one record.
 unfoldable pub firstWith : ℕ → ℕ → Opened
-firstWith t r = openingRow three threeCells (record { table = t; row = r }) (0 ∷ []) (0 ∷ []) (0 ∷ [])
+firstWith t r = openingHolding three threeCells (record { table = t; row = r }) (0 ∷ []) (0 ∷ []) (0 ∷ [])
 
 unfoldable pub callsWith : ℕ → ℕ → List Called
 callsWith t r = runOf (call three threeCells) (asked ∷ asked ∷ []) (firstWith t r .after)
