@@ -24,7 +24,8 @@ use Rattle.store.specs.Store as Store
 use Rattle.store.specs.Store.{Store, linkOf, searchOf, filed, added, answerOf, storeAfter}
 use Rattle.machine.specs.Machine.{State, stateFor, placed, offered, trialOn, aSet, finished, refused, Called, handOut, dueOr, work, unfit, callFault, Askable, Fit, call, Opened, openFault, begun, openingFor}
 use Rattle.machine.specs.Runs.{Given, runOf, endedOf, handed, sum}
-use Rattle.machine.proofs.Sample.{three, threeCells, first, open-says}
+use Rattle.machine.proofs.Sample.{first, open-says}
+use Rattle.tables.specs.Sample.{three, threeCells}
 use Rattle.claims.specs.CallRefusals.{none, Ready}
 use Rattle.claims.specs.Demands.{Demand1, Demand2, Demand3, made}
 use Rattle.claims.specs.Frauds.{lies, pads, rushes, Frauds, Rushed}

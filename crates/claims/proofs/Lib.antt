@@ -23,4 +23,5 @@ pub mod CatalogueExactly
 pub mod CallExactly
 pub mod RowsExactly
 pub mod WriteExactly
+pub mod InARow
 pub mod Imaged

@@ -13,7 +13,7 @@ use Rattle.rows.specs.World.{worldOf}
 use Rattle.store.specs.Store.{Store}
 use Rattle.machine.specs.Machine.{State, aSet, finished, refused, Called, Askable, call, Opened, opening}
 use Rattle.machine.specs.Runs.{Given, runOf, endedOf}
-use Rattle.machine.proofs.Sample.{three, threeCells}
+use Rattle.tables.specs.Sample.{three, threeCells}
 use Rattle.claims.specs.Demands.{Demand1, Demand2, Demand3, made}
 
 -- ---- the frauds, as streams

@@ -5,6 +5,7 @@ pub mod LoadRefusals
 pub mod CatalogueRefusals
 pub mod WriteRefusals
 pub mod CallRefusals
+pub mod CallsInRow
 pub mod Images
 pub mod Frauds
 pub mod Ignored

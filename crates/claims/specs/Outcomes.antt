@@ -9,8 +9,8 @@ use Rattle.image.specs.declared.Loaded.{Loaded}
 use Rattle.image.specs.declared.Written.{Written}
 use Rattle.image.specs.Load.{Loads}
 use Rattle.image.specs.Write.{Writes}
-use Rattle.door.specs.Door.{checkOf}
-use Rattle.padding.specs.Covering.{covering}
+use Rattle.door.specs.Door.{Checks}
+use Rattle.padding.specs.Covering.{Covers}
 use Rattle.stream.specs.declared.StreamRecord.{StreamRecord}
 use Rattle.stream.specs.declared.OpenAnswer.{OpenAnswer}
 use Rattle.stream.specs.declared.StepAnswer.{StepAnswer}
@@ -49,5 +49,5 @@ pub record OneOutcome : Type 0 where
       (r r′ : NextAnswer) (q q′ : HoldingRecord) (ks ls rs w ks′ ls′ rs′ w′ : List ℕ)
       → NextsHolding cat cells keys left right s b row r q ks ls rs w → NextsHolding cat cells keys left right s b row r′ q′ ks′ ls′ rs′ w′
       → (r ≡ r′) × (q ≡ q′) × (ks ≡ ks′) × (ls ≡ ls′) × (rs ≡ rs′) × (w ≡ w′)
-  pub covers : (first second : List ℕ) (r r′ : Bool) → r ≡ covering first second → r′ ≡ covering first second → r ≡ r′
-  pub check : (s : List ℕ) (r r′ : ℕ) → r ≡ checkOf s → r′ ≡ checkOf s → r ≡ r′
+  pub covers : (first second : List ℕ) (r r′ : Bool) → Covers first second r → Covers first second r′ → r ≡ r′
+  pub check : (s : List ℕ) (r r′ : ℕ) → Checks s r → Checks s r′ → r ≡ r′

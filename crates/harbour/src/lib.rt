@@ -1,7 +1,6 @@
 // The public calls of the library: load and write an image, open a stream and move it on, and ask whether one padded row covers another.
 // None asks anything of its caller, and each promise stands here once: one outcome for every input, refusals too.
-ghost use mathlib.Core.Path.{_≡_};
-ghost use Rattle.padding.specs.Covering.{covering};
+ghost use Rattle.padding.specs.Covering.{Covers};
 ghost use Rattle.image.specs.Load.{Loads};
 ghost use Rattle.image.specs.Write.{Writes};
 ghost use Rattle.stream.specs.Promises.{Opens, Steps, OpensHolding, StepsHolding};
@@ -171,7 +170,7 @@ pub fn step_holding(
 // Whether one padded row covers another: the same length, the same value wherever both have one, and at least as many values.
 // Rows of any length may be asked about, and any codes.
 pub fn covers(first: &[u64], second: &[u64]) -> bool
-    ensures { λ r. ⌜ r ≡ covering (now (first .entry)) (now (second .entry)) ⌝ }
+    ensures { λ r. ⌜ Covers (now (first .entry)) (now (second .entry)) r ⌝ }
 {
     padding::covers(first, second)
 }

@@ -42,3 +42,7 @@ pub record Covering (first second : List ℕ) : Type 0 where
   pub long : length first ≡ length second
   pub agree : Agreeing first second
   pub values : valuesIn second ≤ valuesIn first
+
+-- "A public yes or no answers this": what the call that answers r promises.
+abbrev pub Covers : List ℕ → List ℕ → Bool → Type 0
+Covers first second r = r ≡ covering first second

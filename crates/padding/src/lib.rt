@@ -12,7 +12,7 @@ ghost use Rattle.disjunction.specs.Cells.{codeBelow};
 ghost use Rattle.rows.specs.World.{cellsIn, setOf};
 ghost use Rattle.rows.specs.Named.{Named};
 ghost use Rattle.padding.specs.Padding.{givesIn, paddedRow};
-ghost use Rattle.padding.specs.Covering.{valued, alike, agreeing, valuesIn, covering};
+ghost use Rattle.padding.specs.Covering.{valued, alike, agreeing, valuesIn, Covers};
 use tables::Catalogue;
 
 // Whether table t is a member of the set and has attribute a.
@@ -127,7 +127,7 @@ fn values(row: &[u64]) -> usize
 // Whether one padded row covers another, for rows of any length.
 // A public yes or no: nothing is asked of the rows before.
 pub fn covers(first: &[u64], second: &[u64]) -> bool
-    ensures { λ r. ⌜ r ≡ covering (now (first .entry)) (now (second .entry)) ⌝ }
+    ensures { λ r. ⌜ Covers (now (first .entry)) (now (second .entry)) r ⌝ }
 {
     if first.len() != second.len() {
         return false;
