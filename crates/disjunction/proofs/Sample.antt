@@ -117,6 +117,11 @@ twins-padded : padded twins (1 ∷ 0 ∷ []) ≡ padded twins (0 ∷ 1 ∷ [])
 unfolding padded codeBelow gives member tab any twins cellsOf holds codeAt
 twins-padded = refl
 
+-- "From the lowest-numbered member table with that attribute": rows 1 of tables 0 and 1 disagree on attribute 0, and table 0 gives it.
+early-padded : padded early (1 ∷ 1 ∷ 0 ∷ []) ≡ 2 ∷ 6 ∷ 8 ∷ []
+unfolding padded codeBelow gives member tab any early cellsOf holds codeAt
+early-padded = refl
+
 -- "embed(T) is the tuple t = (A : 1, B : 10, C : 1, D : 1, E : 11, F : 1, G : null)."
 four-padded : padded four (1 ∷ 1 ∷ 1 ∷ 0 ∷ []) ≡ 2 ∷ 11 ∷ 2 ∷ 2 ∷ 12 ∷ 2 ∷ 0 ∷ []
 unfolding padded codeBelow gives member tab any four cellsOf holds codeAt

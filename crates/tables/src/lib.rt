@@ -105,7 +105,7 @@ pub fn table_fault(m: usize, lent: usize, used: usize, scheme: u64, rows: u64) -
 }
 
 // The first refusal of the whole catalogue (4; then table by table 5, 6, 8), or 0; `lent` cells are lent.
-// Every public call makes this test first, so that all behind it may rely on a lawful catalogue.
+// Open and the stream calls make this test first, so that all behind it may rely on a lawful catalogue; the writer makes it table by table.
 pub fn fault(cat: Catalogue, lent: usize) -> usize
     ensures { λ r. ⌜ r ≡ catalogueFault cat lent ⌝ }
 {
