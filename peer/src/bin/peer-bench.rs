@@ -197,7 +197,31 @@ fn check(name: &str, tables: &Tables, repeats: usize) {
     println!("{name:<42} {:>6} bytes {:>9.6} s  {:>6.3} of a Rust reading", image.len(), library / rounds as f64, library / rust);
 }
 
-/// Times every case, first the drains, then the checks of their images.
+/// Tables of 8,192 cells, as many as an image ever has: eight of eight attributes and 128 rows, every code from `least` on and near it.
+fn full(least: u64) -> Tables {
+    let shapes = [(0xff, 128); 8];
+    tables(8, &shapes, |table, row, a| if a == 0 { least + row - 1 } else { least + (row + table as u64 + u64::from(a)) % 100 })
+}
+
+/// Writes one image in both forms and prints the ratio.
+fn write(name: &str, tables: &Tables, repeats: usize) {
+    let catalogue = words::words_of(&tables.catalogue);
+    let mut out = make::good(tables);
+    let answer = 32 * out.len() as u64;
+    let rounds = 20_000_000 / out.len();
+    let [library, rust] = best(repeats, |form| {
+        for _ in 0..rounds {
+            let lent = black_box(&mut out);
+            match form {
+                0 => assert!(library::write(&catalogue, &tables.cells, lent) == answer),
+                _ => assert!(words::write(&catalogue, &tables.cells, lent) == answer),
+            }
+        }
+    });
+    println!("{name:<42} {:>6} bytes {:>9.6} s  {:>6.3} of a Rust writing", out.len(), library / rounds as f64, library / rust);
+}
+
+/// Times every case, first the drains, then the checks of their images; then the largest images written.
 fn main() {
     let word = std::env::args().nth(1);
     if word.as_deref() == Some("sql") {
@@ -213,4 +237,7 @@ fn main() {
     for (name, tables) in cases() {
         check(name, &tables, repeats);
     }
+    println!("the largest images written, the best of {repeats}:");
+    write("8,192 cells, codes below 128", &full(0), repeats);
+    write("8,192 cells, codes near 2^63", &full((1 << 63) - 200), repeats);
 }
