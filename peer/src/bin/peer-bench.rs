@@ -245,6 +245,30 @@ fn check(name: &str, tables: &Tables, repeats: usize) {
     println!("{name:<42} {:>6} bytes {:>9.6} s  {:>6.3} of a Rust reading", image.len(), library / rounds as f64, library / rust);
 }
 
+/// Tables of 8,192 cells, as many as an image ever has: eight of eight attributes and 128 rows, every code from `least` on and near it.
+fn full(least: u64) -> Tables {
+    let shapes = [(0xff, 128); 8];
+    tables(8, &shapes, |table, row, a| if a == 0 { least + row - 1 } else { least + (row + table as u64 + u64::from(a)) % 100 })
+}
+
+/// Writes one image in both forms and prints the ratio.
+fn write(name: &str, tables: &Tables, repeats: usize) {
+    let catalogue = words::words_of(&tables.catalogue);
+    let mut out = make::good(tables);
+    let answer = 32 * out.len() as u64;
+    let rounds = 20_000_000 / out.len();
+    let [library, rust] = best(repeats, |form| {
+        for _ in 0..rounds {
+            let lent = black_box(&mut out);
+            match form {
+                0 => assert!(library::write(&catalogue, &tables.cells, lent) == answer),
+                _ => assert!(words::write(&catalogue, &tables.cells, lent) == answer),
+            }
+        }
+    });
+    println!("{name:<42} {:>6} bytes {:>9.6} s  {:>6.3} of a Rust writing", out.len(), library / rounds as f64, library / rust);
+}
+
 /// Does what its words say.
 fn main() {
     let words: Vec<String> = std::env::args().skip(1).collect();
@@ -262,7 +286,7 @@ fn main() {
     }
 }
 
-/// Times every case, first the drains, then the checks of the images of (a) to (e).
+/// Times every case, first the drains, then the checks of the images of (a) to (e); then the largest images written.
 fn all(repeats: usize) {
     println!("drains, the best of {repeats}:");
     for case in cases() {
@@ -272,4 +296,7 @@ fn all(repeats: usize) {
     for case in cases().iter().filter(|case| "abcde".contains(case.letter)) {
         check(case.name, &case.tables, repeats);
     }
+    println!("the largest images written, the best of {repeats}:");
+    write("8,192 cells, codes below 128", &full(0), repeats);
+    write("8,192 cells, codes near 2^63", &full((1 << 63) - 200), repeats);
 }
