@@ -9,7 +9,7 @@ ghost use Rattle.abi.specs.Calls.{LoadCall, WriteCall};
 use image::Written;
 use tables::Catalogue;
 
-mod streams;
+pub mod streams;
 
 // The word of a catalogue at a place: m, n, the eight schemes, the eight row counts.
 // One function says the order, so that the copy is a single loop.

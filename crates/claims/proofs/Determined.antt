@@ -2,6 +2,7 @@
 use Prim.Native.Nat.{ℕ}
 use native.Mathlib.Omega.{arith}
 use mathlib.Core.Path.{_≡_, refl, sym, ap, ap₂, _∙_}
+use mathlib.Core.Bool.{Bool}
 use mathlib.Core.List.{List}
 use Rattle.disjunction.specs.Rule.{Place}
 use Rattle.disjunction.specs.Asked.{Asked, everySet, everyWith}
@@ -22,6 +23,7 @@ use Rattle.image.specs.declared.Written.{Written}
 use Rattle.image.specs.Load.{firstTable, tablesCodes, cellsAfter, Loads}
 use Rattle.image.specs.Write.{imageOf, bytesAfter, Writes}
 use Rattle.tables.specs.declared.Catalogue.{Catalogue}
+use Rattle.abi.specs.Streams.{Opening, Calling}
 use Rattle.claims.specs.Outcomes.{OneOutcome}
 
 -- ---- the image
@@ -40,7 +42,7 @@ writes-one cat cells lent r r′ after after′ l l′ =
 -- ---- the stream
 
 -- A state tells its record and its lists.
-state-one : (v v′ : Asked) (s s′ : StreamRecord) (ks ls rs ks′ ls′ rs′ : List ℕ) → stateWith v s ks ls rs ≡ stateWith v′ s′ ks′ ls′ rs′
+pub state-one : (v v′ : Asked) (s s′ : StreamRecord) (ks ls rs ks′ ls′ rs′ : List ℕ) → stateWith v s ks ls rs ≡ stateWith v′ s′ ks′ ls′ rs′
     → (s ≡ s′) × (ks ≡ ks′) × (ls ≡ ls′) × (rs ≡ rs′)
 state-one v v′ s s′ ks ls rs ks′ ls′ rs′ e =
     let f : s .found ≡ s′ .found = ap (λ (q : State). q .store .found) e in
@@ -174,6 +176,33 @@ holding-nexts-one r r′ q q′ ks ls rs w ks′ ls′ rs′ w′ e =
     answer : HoldingStepAnswer → NextAnswer
     answer x = record { answer = x .answer; key = x .key; trials = x .trials; tests = x .tests; looks = x .looks }
 
+-- ---- the calls for C
+
+-- Of either stream.
+opening-one : {few : Bool} {o : Opened} {keys left right words : List ℕ} {r r′ : ℕ} {ks ls rs ws ks′ ls′ rs′ ws′ : List ℕ}
+    → Opening few o keys left right words r ks ls rs ws → Opening few o keys left right words r′ ks′ ls′ rs′ ws′
+    → (r ≡ r′) × (ks ≡ ks′) × (ls ≡ ls′) × (rs ≡ rs′) × (ws ≡ ws′)
+opening-one c d = (
+  c .answer ∙ sym (d .answer),
+  c .keys-after ∙ sym (d .keys-after),
+  c .left-after ∙ sym (d .left-after),
+  c .right-after ∙ sym (d .right-after),
+  c .words-after ∙ sym (d .words-after),
+)
+
+calling-one : {few : Bool} {s : Called} {keys left right words row result : List ℕ} {r r′ : ℕ} {ks ls rs ws w res ks′ ls′ rs′ ws′ w′ res′ : List ℕ}
+    → Calling few s keys left right words row result r ks ls rs ws w res → Calling few s keys left right words row result r′ ks′ ls′ rs′ ws′ w′ res′
+    → (r ≡ r′) × (ks ≡ ks′) × (ls ≡ ls′) × (rs ≡ rs′) × (ws ≡ ws′) × (w ≡ w′) × (res ≡ res′)
+calling-one c d = (
+  c .answer ∙ sym (d .answer),
+  c .keys-after ∙ sym (d .keys-after),
+  c .left-after ∙ sym (d .left-after),
+  c .right-after ∙ sym (d .right-after),
+  c .words-after ∙ sym (d .words-after),
+  c .row-after ∙ sym (d .row-after),
+  c .result-after ∙ sym (d .result-after),
+)
+
 pub determined : OneOutcome
 determined =
     record {
@@ -188,4 +217,12 @@ determined =
           holding-nexts-one r r′ q q′ ks ls rs w ks′ ls′ rs′ w′ (e ∙ sym e′);
       covers = λ first second r r′ e e′. e ∙ sym e′;
       check = λ s r r′ e e′. e ∙ sym e′;
+      «harbour_load» = λ image cells words r r′ cs ws cs′ ws′ c d.
+          (c .answer ∙ sym (d .answer), c .cells-after ∙ sym (d .cells-after), c .words-after ∙ sym (d .words-after));
+      «harbour_write» = λ words cells out r r′ o o′ c d. (c .answer ∙ sym (d .answer), c .bytes-after ∙ sym (d .bytes-after));
+      «harbour_open» = λ catalogue cells keys left right words r r′ ks ls rs ws ks′ ls′ rs′ ws′ c d. opening-one c d;
+      «harbour_next» = λ catalogue cells keys left right words b row result r r′ ks ls rs ws w res ks′ ls′ rs′ ws′ w′ res′ c d. calling-one c d;
+      «harbour_open_holding» = λ catalogue cells keys left right t n words r r′ ks ls rs ws ks′ ls′ rs′ ws′ c d. opening-one c d;
+      «harbour_next_holding» = λ catalogue cells keys left right words b row result r r′ ks ls rs ws w res ks′ ls′ rs′ ws′ w′ res′ c d. calling-one c d;
+      «harbour_covers» = λ first second r r′ c d. c ∙ sym d;
     }

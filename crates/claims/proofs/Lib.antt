@@ -25,3 +25,4 @@ pub mod RowsExactly
 pub mod WriteExactly
 pub mod InARow
 pub mod Imaged
+pub mod ForC

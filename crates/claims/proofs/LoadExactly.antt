@@ -154,7 +154,7 @@ module _ (s : List ℕ) (room : ℕ) where
 -- ---- the C door
 
 -- No refusal is 0, which the door keeps for good.
-some-refusal : (s : List ℕ) (room : ℕ) {d : Due} {i k p : ℕ} → Meets s room d i k p → 0 < k
+pub some-refusal : (s : List ℕ) (room : ℕ) {d : Due} {i k p : ℕ} → Meets s room d i k p → 0 < k
 some-refusal s room (number {i = i} {f = f} n e) = by (number-exact s i .no-other f e)
   where
     by : (f ≡ 1) ⊎ (f ≡ 2) → 0 < f

@@ -15,7 +15,12 @@ use Rattle.image.specs.declared.Verdict.{Verdict}
 use Rattle.image.specs.declared.Verdict.the-variants.{Good, Refused}
 use Rattle.image.specs.declared.Loaded.{Loaded}
 use Rattle.image.specs.Load.{version, firstTable, noCatalogue, refused, fieldAt, onField, tableAt, onEntry, tablesFrom, scanOf, tablesCodes, cellsAfter}
+use Rattle.disjunction.specs.Asked.{everySet}
+use Rattle.machine.specs.Machine.{Called, Opened}
+use Rattle.stream.specs.Promises.{stateOf}
 use Rattle.claims.specs.Unchanged.{Unchanged}
+use Rattle.claims.proofs.Determined.{state-one}
+use Rattle.claims.proofs.Exact.{demand1}
 
 -- A refused load has a catalogue of zeros.
 abbrev Zeroed : Verdict → Catalogue → Type 0
@@ -52,6 +57,9 @@ scan-zero s room =
     on-field (fieldAt s j 1 mostTables 4) _ (λ n k.
     tables-zero n s room m n 0 0 (replicate 8 0) (replicate 8 0) k)))
 
+pub scan-zeros : (s : List ℕ) (room k p : ℕ) → scanOf s room .verdict ≡ Refused k p → scanOf s room .catalogue ≡ noCatalogue
+scan-zeros s room k p e = subst (λ (v : Verdict). Zeroed v (scanOf s room .catalogue)) e (scan-zero s room)
+
 pub unchanged : Unchanged
 unchanged =
     record {
@@ -60,4 +68,11 @@ unchanged =
         l .cells ∙ ap (λ (v : Verdict). cellsAfter v (tablesCodes (r .catalogue .n) s firstTable) lent) e,
       );
       write = λ cat cells lent after k w. w .bytes;
+      «open» = λ cat cells keys left right o ks ls rs e n.
+          let z = demand1 cat cells everySet .zeroed keys left right (λ f. n (ap (λ (x : Opened). x .refusal) e ∙ f)) .0 in
+          state-one everySet everySet (o .stream) (record { found = 0; taken = 0; «next_row» = 0 }) ks ls rs keys left right (ap (λ (x : Opened). x .after) e ∙ z);
+      step = λ cat cells keys left right s b row r ks ls rs w e n.
+          let d = e ∙ demand1 cat cells everySet .refuses b (stateOf s keys left right) row n in
+          let (f, k, l, m) = state-one everySet everySet (r .stream) s ks ls rs keys left right (ap (λ (x : Called). x .after) d) in
+          (f, k, l, m, ap (λ (x : Called). x .row) d);
     }

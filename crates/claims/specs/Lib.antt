@@ -10,3 +10,4 @@ pub mod Images
 pub mod Frauds
 pub mod Ignored
 pub mod Unchanged
+pub mod CallsForC

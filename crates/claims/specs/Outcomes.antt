@@ -20,6 +20,8 @@ use Rattle.stream.specs.declared.HoldingStepAnswer.{HoldingStepAnswer}
 use Rattle.stream.specs.Promises.{Opens, Steps, OpensHolding, StepsHolding}
 use Rattle.harbour.specs.declared.NextAnswer.{NextAnswer}
 use Rattle.harbour.specs.Answers.{Nexts, NextsHolding}
+use Rattle.abi.specs.Calls.{LoadCall, WriteCall, CoversCall}
+use Rattle.abi.specs.Streams.{OpenCall, NextCall, OpenHoldingCall, NextHoldingCall}
 
 -- One field for each public call: two outcomes that meet its promise are one.
 pub record OneOutcome : Type 0 where
@@ -51,3 +53,26 @@ pub record OneOutcome : Type 0 where
       → (r ≡ r′) × (q ≡ q′) × (ks ≡ ks′) × (ls ≡ ls′) × (rs ≡ rs′) × (w ≡ w′)
   pub covers : (first second : List ℕ) (r r′ : Bool) → Covers first second r → Covers first second r′ → r ≡ r′
   pub check : (s : List ℕ) (r r′ : ℕ) → Checks s r → Checks s r′ → r ≡ r′
+  -- The calls for C.
+  pub «harbour_load» : (image cells words : List ℕ) (r r′ : ℕ) (cs ws cs′ ws′ : List ℕ)
+      → LoadCall image cells words r cs ws → LoadCall image cells words r′ cs′ ws′ → (r ≡ r′) × (cs ≡ cs′) × (ws ≡ ws′)
+  pub «harbour_write» : (words cells out : List ℕ) (r r′ : ℕ) (o o′ : List ℕ)
+      → WriteCall words cells out r o → WriteCall words cells out r′ o′ → (r ≡ r′) × (o ≡ o′)
+  pub «harbour_open» : (catalogue cells keys left right words : List ℕ) (r r′ : ℕ) (ks ls rs ws ks′ ls′ rs′ ws′ : List ℕ)
+      → OpenCall catalogue cells keys left right words r ks ls rs ws → OpenCall catalogue cells keys left right words r′ ks′ ls′ rs′ ws′
+      → (r ≡ r′) × (ks ≡ ks′) × (ls ≡ ls′) × (rs ≡ rs′) × (ws ≡ ws′)
+  pub «harbour_next» : (catalogue cells keys left right words : List ℕ) (b : ℕ) (row result : List ℕ)
+      (r r′ : ℕ) (ks ls rs ws w res ks′ ls′ rs′ ws′ w′ res′ : List ℕ)
+      → NextCall catalogue cells keys left right words b row result r ks ls rs ws w res
+      → NextCall catalogue cells keys left right words b row result r′ ks′ ls′ rs′ ws′ w′ res′
+      → (r ≡ r′) × (ks ≡ ks′) × (ls ≡ ls′) × (rs ≡ rs′) × (ws ≡ ws′) × (w ≡ w′) × (res ≡ res′)
+  pub «harbour_open_holding» : (catalogue cells keys left right : List ℕ) (t n : ℕ) (words : List ℕ) (r r′ : ℕ) (ks ls rs ws ks′ ls′ rs′ ws′ : List ℕ)
+      → OpenHoldingCall catalogue cells keys left right t n words r ks ls rs ws
+      → OpenHoldingCall catalogue cells keys left right t n words r′ ks′ ls′ rs′ ws′
+      → (r ≡ r′) × (ks ≡ ks′) × (ls ≡ ls′) × (rs ≡ rs′) × (ws ≡ ws′)
+  pub «harbour_next_holding» : (catalogue cells keys left right words : List ℕ) (b : ℕ) (row result : List ℕ)
+      (r r′ : ℕ) (ks ls rs ws w res ks′ ls′ rs′ ws′ w′ res′ : List ℕ)
+      → NextHoldingCall catalogue cells keys left right words b row result r ks ls rs ws w res
+      → NextHoldingCall catalogue cells keys left right words b row result r′ ks′ ls′ rs′ ws′ w′ res′
+      → (r ≡ r′) × (ks ≡ ks′) × (ls ≡ ls′) × (rs ≡ rs′) × (ws ≡ ws′) × (w ≡ w′) × (res ≡ res′)
+  pub «harbour_covers» : (first second : List ℕ) (r r′ : ℕ) → CoversCall first second r → CoversCall first second r′ → r ≡ r′

@@ -5,6 +5,8 @@ ghost use Rattle.image.specs.Write.{Writes};
 ghost use Rattle.padding.specs.Covering.{Covers};
 ghost use Rattle.stream.specs.Promises.{Opens, Steps, OpensHolding, StepsHolding};
 ghost use Rattle.door.specs.Door.{Checks};
+ghost use Rattle.abi.specs.Calls.{LoadCall, WriteCall, CoversCall};
+ghost use Rattle.abi.specs.Streams.{OpenCall, NextCall, OpenHoldingCall, NextHoldingCall};
 use harbour::Catalogue;
 use harbour::HoldingOpenAnswer;
 use harbour::HoldingRecord;
@@ -101,4 +103,109 @@ pub fn check(image: &[u8]) -> u64
     ensures { λ r. ⌜ Checks (now (image .entry)) r ⌝ }
 {
     door::harbour_check(image)
+}
+
+// Calls `abi::harbour_load`.
+pub fn load_words(image: &[u8], cells: &mut [u64], catalogue: &mut [u64]) -> u64
+    ensures { λ r. ⌜ LoadCall (now (image .entry)) (now (cells .entry)) (now (catalogue .entry)) r (now (cells .exit)) (now (catalogue .exit)) ⌝ }
+{
+    abi::harbour_load(image, cells, catalogue)
+}
+
+// Calls `abi::harbour_write`.
+pub fn write_words(catalogue: &[u64], cells: &[u64], out: &mut [u8]) -> u64
+    ensures { λ r. ⌜ WriteCall (now (catalogue .entry)) (now (cells .entry)) (now (out .entry)) r (now (out .exit)) ⌝ }
+{
+    abi::harbour_write(catalogue, cells, out)
+}
+
+// Calls `abi::streams::harbour_open`.
+pub fn open_words(
+    catalogue: &[u64],
+    cells: &[u64],
+    keys: &mut [u64],
+    left: &mut [u16],
+    right: &mut [u16],
+    words: &mut [u64],
+) -> u64
+    ensures { λ r. ⌜ OpenCall (now (catalogue .entry)) (now (cells .entry)) (now (keys .entry)) (now (left .entry)) (now (right .entry)) (now (words .entry)) r (now (keys .exit)) (now (left .exit)) (now (right .exit)) (now (words .exit)) ⌝ }
+{
+    abi::streams::harbour_open(catalogue, cells, keys, left, right, words)
+}
+
+// Calls `abi::streams::harbour_next`.
+pub fn next_words(
+    catalogue: &[u64],
+    cells: &[u64],
+    keys: &mut [u64],
+    left: &mut [u16],
+    right: &mut [u16],
+    words: &mut [u64],
+    budget: u64,
+    padded: &mut [u64],
+    result: &mut [u64],
+) -> u64
+    ensures { λ r. ⌜ NextCall (now (catalogue .entry)) (now (cells .entry)) (now (keys .entry)) (now (left .entry)) (now (right .entry)) (now (words .entry)) budget (now (padded .entry)) (now (result .entry)) r (now (keys .exit)) (now (left .exit)) (now (right .exit)) (now (words .exit)) (now (padded .exit)) (now (result .exit)) ⌝ }
+{
+    abi::streams::harbour_next(
+        catalogue,
+        cells,
+        keys,
+        left,
+        right,
+        words,
+        budget,
+        padded,
+        result,
+    )
+}
+
+// Calls `abi::streams::harbour_open_holding`.
+pub fn open_holding_words(
+    catalogue: &[u64],
+    cells: &[u64],
+    keys: &mut [u64],
+    left: &mut [u16],
+    right: &mut [u16],
+    table: u64,
+    row: u64,
+    words: &mut [u64],
+) -> u64
+    ensures { λ r. ⌜ OpenHoldingCall (now (catalogue .entry)) (now (cells .entry)) (now (keys .entry)) (now (left .entry)) (now (right .entry)) table row (now (words .entry)) r (now (keys .exit)) (now (left .exit)) (now (right .exit)) (now (words .exit)) ⌝ }
+{
+    abi::streams::harbour_open_holding(catalogue, cells, keys, left, right, table, row, words)
+}
+
+// Calls `abi::streams::harbour_next_holding`.
+pub fn next_holding_words(
+    catalogue: &[u64],
+    cells: &[u64],
+    keys: &mut [u64],
+    left: &mut [u16],
+    right: &mut [u16],
+    words: &mut [u64],
+    budget: u64,
+    padded: &mut [u64],
+    result: &mut [u64],
+) -> u64
+    ensures { λ r. ⌜ NextHoldingCall (now (catalogue .entry)) (now (cells .entry)) (now (keys .entry)) (now (left .entry)) (now (right .entry)) (now (words .entry)) budget (now (padded .entry)) (now (result .entry)) r (now (keys .exit)) (now (left .exit)) (now (right .exit)) (now (words .exit)) (now (padded .exit)) (now (result .exit)) ⌝ }
+{
+    abi::streams::harbour_next_holding(
+        catalogue,
+        cells,
+        keys,
+        left,
+        right,
+        words,
+        budget,
+        padded,
+        result,
+    )
+}
+
+// Calls `abi::streams::harbour_covers`.
+pub fn covers_words(first: &[u64], second: &[u64]) -> u64
+    ensures { λ r. ⌜ CoversCall (now (first .entry)) (now (second .entry)) r ⌝ }
+{
+    abi::streams::harbour_covers(first, second)
 }
