@@ -11,3 +11,4 @@ pub mod Frauds
 pub mod Ignored
 pub mod Unchanged
 pub mod CallsForC
+pub mod Holdings
