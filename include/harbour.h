@@ -159,8 +159,8 @@ uint64_t harbour_next_holding(const uint64_t *catalogue, size_t catalogue_length
 
 /*
  * Tells whether the first padded row covers the second: 1 for yes, 0 for no. It
- * does when they have the same length, agree wherever both have a value, and the
- * first has at least as many values. A code of 0 is no value.
+ * does when they have the same length and the first has, at each attribute where
+ * the second has a value, that same value. A code of 0 is no value.
  */
 uint64_t harbour_covers(const uint64_t *first, size_t first_length,
                         const uint64_t *second, size_t second_length);

@@ -443,10 +443,7 @@ pub fn next_for(
 }
 
 /// Does the first padded row cover the second?
-/// Same length, agreement wherever both have a value, and at least as many values.
+/// Same length, and the first has every value of the second, attribute by attribute (request #104).
 pub fn covers(first: &[u64], second: &[u64]) -> bool {
-    let values = |row: &[u64]| row.iter().filter(|&&code| code != 0).count();
-    first.len() == second.len()
-        && first.iter().zip(second).all(|(&one, &other)| one == 0 || other == 0 || one == other)
-        && values(first) >= values(second)
+    first.len() == second.len() && first.iter().zip(second).all(|(&one, &other)| other == 0 || one == other)
 }

@@ -6,6 +6,7 @@ pub mod Runs
 pub mod Steps
 pub mod Holding
 pub mod Demanded
+pub mod Held
 pub mod Copies
 pub mod Longers
 pub mod Frauds

@@ -13,7 +13,7 @@ use Rattle.tables.specs.Catalogues.{firstCell, rowStart}
 use Rattle.disjunction.specs.Rule.{member}
 use Rattle.disjunction.specs.Cells.{gives, codeBelow, padded}
 use Rattle.padding.specs.Padding.{paddedRow}
-use Rattle.padding.specs.Covering.{alike, agreeing, valuesIn, covering}
+use Rattle.padding.specs.Covering.{keeps, covering, Pair}
 
 -- ---- padded rows
 
@@ -44,26 +44,23 @@ lowest-table = refl
 
 -- ---- covering
 
--- (1, null, 3) covers (1, 2, null), and is covered by it: they agree on the first attribute, and each has two values.
-pub equal-values : covering (2 ∷ 0 ∷ 4 ∷ []) (2 ∷ 3 ∷ 0 ∷ []) ≡ true
-unfolding covering agreeing alike valuesIn all
-equal-values = refl
+-- Request #104's pair: (1, null, 3) has no 2, and (1, 2, null) no 3.
+pub pair : Pair
+unfolding covering keeps all
+pair = record { there = refl; back = refl }
 
-pub equal-values-back : covering (2 ∷ 3 ∷ 0 ∷ []) (2 ∷ 0 ∷ 4 ∷ []) ≡ true
-unfolding covering agreeing alike valuesIn all
-equal-values-back = refl
+-- (1, 2) covers (1, null), which does not cover it; (null, null) is covered by both.
+pub fewer-values : (covering (2 ∷ 3 ∷ []) (2 ∷ 0 ∷ []) ≡ true) × (covering (2 ∷ 0 ∷ []) (2 ∷ 3 ∷ []) ≡ false)
+    × (covering (2 ∷ 0 ∷ []) (0 ∷ 0 ∷ []) ≡ true)
+unfolding covering keeps all
+fewer-values = (refl, refl, refl)
 
--- (1, 2) covers (1, null), which has one value less and does not cover it.
-pub fewer-values : covering (2 ∷ 0 ∷ []) (2 ∷ 3 ∷ []) ≡ false
-unfolding covering agreeing alike valuesIn all
-fewer-values = refl
-
--- (1, 2) and (1, 3) do not agree.
+-- (1, 2) and (1, 3) do not cover each other.
 pub other-value : covering (2 ∷ 3 ∷ []) (2 ∷ 4 ∷ []) ≡ false
-unfolding covering agreeing alike valuesIn all
+unfolding covering keeps all
 other-value = refl
 
 -- (1, 2) does not cover (1), although it has every value of it, for rows of unequal length never cover.
 pub longer-row : covering (2 ∷ 3 ∷ []) (2 ∷ []) ≡ false
-unfolding covering agreeing alike valuesIn all
+unfolding covering keeps all
 longer-row = refl

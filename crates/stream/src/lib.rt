@@ -4,14 +4,16 @@ ghost use mathlib.Core.Path.{_≡_};
 ghost use Prim.Native.Nat.{_≤_, _<_};
 ghost use lib.ListN.{length};
 ghost use Rattle.tables.specs.Sizes.{mostCells};
-ghost use Rattle.tables.specs.Catalogues.{FirstCells, total};
+ghost use Rattle.tables.specs.Catalogues.{total};
 ghost use Rattle.tables.specs.Checks.{Lawful};
 ghost use Rattle.keys.specs.Keys.{mostTables};
+ghost use Rattle.sets.specs.Promises.{LaidOut};
 ghost use Rattle.machine.specs.Machine.{Fit, stray, unfit, callFault, work, call};
 ghost use Rattle.stream.specs.Promises.{askedOf, Reached, keyWanted, stateWith, stateOf, calledWith, Opens, Steps, OpensHolding, StepsHolding, Begins, Tries, Ends};
 ghost use Rattle.store.specs.Store.{roomOf};
 ghost use Rattle.rows.specs.World.{placeOf};
 ghost use Rattle.rows.specs.Named.{There};
+use sets::Layout;
 use store::Placed;
 use tables::Catalogue;
 use tables::Row;
@@ -114,8 +116,8 @@ fn file_first(
 {
     let total = tables::total_rows(cat);
     let alone = keys::with_row(0, first.table, first.row as u64);
-    let firsts = tables::first_cells(cat);
-    let g = sets::extend(cat, cells, firsts, alone);
+    let layout = sets::laid_out(cat, cells, 1);
+    let g = sets::extend(cat, cells, layout, alone, 0);
     store::file_record(keys, left, right, 0, g.key);
     OpenAnswer {
         refusal: 0,
@@ -311,14 +313,14 @@ fn fault(
 fn trial(
     cat: Catalogue,
     cells: &[u64],
-    firsts: [usize; 8],
+    layout: Layout,
     keys: &mut [u64],
     left: &mut [u16],
     right: &mut [u16],
     s: StreamRecord,
     scope: Scope,
 ) -> Tried
-    requires { ⌜ Lawful cat (length (now cells)) × FirstCells cat firsts × Fit cat (stateWith (askedOf scope) s (now keys) (now left) (now right)) × (s .«next_row» < total cat) ⌝ }
+    requires { ⌜ Lawful cat (length (now cells)) × LaidOut cat (now cells) layout × Fit cat (stateWith (askedOf scope) s (now keys) (now left) (now right)) × (s .«next_row» < total cat) ⌝ }
     ensures { λ r. ⌜ Tries cat (now (cells .entry)) (askedOf scope) s (now (keys .entry)) (now (left .entry)) (now (right .entry)) r (now (keys .exit)) (now (left .exit)) (now (right .exit)) ⌝ }
 {
     let last = s.taken - 1;
@@ -327,7 +329,7 @@ fn trial(
         return Tried::Damaged;
     }
     let row = tables::row_at(cat, s.next_row);
-    let g = sets::trial_set(cat, cells, firsts, key, row);
+    let g = sets::trial_set(cat, cells, layout, key, row);
     let found = s.found;
     if !wants(scope, g.key) {
         return Tried::Done(found, g.tests, 0);
@@ -414,7 +416,7 @@ fn work(
     requires { ⌜ Lawful cat (length (now cells)) × Fit cat (stateWith (askedOf scope) s (now keys) (now left) (now right)) × (cat .m ≤ length (now padded)) ⌝ }
     ensures { λ r. ⌜ calledWith (askedOf scope) r (now (keys .exit)) (now (left .exit)) (now (right .exit)) (now (padded .exit)) ≡ work cat (now (cells .entry)) budget (stateWith (askedOf scope) s (now (keys .entry)) (now (left .entry)) (now (right .entry))) (now (padded .entry)) ⌝ }
 {
-    let firsts = tables::first_cells(cat);
+    let layout = sets::laid_out(cat, cells, budget);
     let total = tables::total_rows(cat);
     let taken = s.taken;
     let mut found = s.found;
@@ -432,7 +434,7 @@ fn work(
         if spare == 0 {
             return told(Answer::Working, q, trials, tests, looks);
         }
-        match trial(cat, cells, firsts, keys, left, right, q, scope) {
+        match trial(cat, cells, layout, keys, left, right, q, scope) {
             Tried::Done(f, t, l) => {
                 found = f;
                 next_row = next_row + 1;

@@ -29,12 +29,16 @@ pub fn width(scheme: u64) -> usize
 }
 
 // How many attributes below `a` the scheme has: the place of a's cell in its row.
-// Cells lie by rising attribute.
+// Cells lie by rising attribute. Often it is the first that is asked for, and then nothing is counted.
 pub fn rank(scheme: u64, a: usize) -> usize
     requires { ⌜ a < 64 ⌝ }
     ensures { λ r. ⌜ r ≡ ones (scheme % 2 ^ a) ⌝ }
 {
-    width(scheme % (1 << a))
+    let below = scheme % (1 << a);
+    if below == 0 {
+        return 0;
+    }
+    width(below)
 }
 
 // 4 where m or n is out of range, else 0.

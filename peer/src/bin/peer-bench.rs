@@ -1,11 +1,12 @@
 //! Times the library beside the same rule in Rust, as worded and with shortcuts, in one run: ratios, never seconds alone.
-//! Use: peer-bench [repeats], or peer-bench sql for the chain's tables and their nested full outer joins as SQL.
+//! Use: peer-bench [repeats]; peer-bench once LETTER FORM for one drain of a case by one form (0 the library, 1 as worded, 2 with shortcuts), whose
+//! instructions callgrind counts; or peer-bench sql for the chain's tables and their nested full outer joins as SQL.
 #![forbid(unsafe_code)]
 use peer::image::{self, Catalogue};
 use peer::make::{self, Tables};
 use peer::random::Random;
-use peer::rule::{self, Answer, Outcome, Record, Store};
-use peer::words::{self, Call, HOLDING, RECORD, RESULT};
+use peer::rule::{self, Answer, Asked, Outcome, Record, Store};
+use peer::words::{self, Call, HOLDING, RESULT};
 use peer::{library, swift};
 use std::hint::black_box;
 use std::time::Instant;
@@ -55,18 +56,24 @@ impl Room {
     }
 }
 
-/// Drains the tables by the library's calls for C.
-fn by_library(tables: &Tables, room: &mut Room) -> Drained {
+/// Drains the tables by the library's calls for C, each with this budget: of every set, or of those that hold a row of a table.
+fn by_library(tables: &Tables, room: &mut Room, asked: Asked, budget: u64) -> Drained {
     let catalogue = words::words_of(&tables.catalogue);
-    let (mut store, mut record, mut result, mut padded) = (room.store(), [0; RECORD], [0; RESULT], [0; 63]);
-    let mut drained = Drained { row_tests: library::open(&catalogue, &tables.cells, &mut store, &mut record) / 32, ..Drained::default() };
+    let (mut store, mut record, mut result, mut padded) = (room.store(), [0; HOLDING], [0; RESULT], [0; 63]);
+    let next = if asked == Asked::EverySet { library::next } else { library::next_holding };
+    let opened = match asked {
+        Asked::EverySet => library::open(&catalogue, &tables.cells, &mut store, &mut record),
+        Asked::Holding { table, row } => library::open_holding(&catalogue, &tables.cells, &mut store, table, row, &mut record),
+    };
+    let mut drained = Drained { row_tests: opened / 32, ..Drained::default() };
     loop {
-        let call = Call { record: &mut record, budget: u64::MAX, padded: &mut padded, result: &mut result };
-        let answer = library::next(&catalogue, &tables.cells, &mut store, call);
+        let call = Call { record: &mut record, budget, padded: &mut padded, result: &mut result };
+        let answer = next(&catalogue, &tables.cells, &mut store, call);
         drained.call([result[1], result[2], result[3]]);
         match answer {
             32 => drained.set(result[0], &padded[..tables.catalogue.m as usize]),
             64 => return drained,
+            96 => (),
             other => panic!("the library answers {other}"),
         }
     }
@@ -75,17 +82,18 @@ fn by_library(tables: &Tables, room: &mut Room) -> Drained {
 type Open = fn(&Catalogue, &[u64], &mut Store) -> Result<(Record, u64), peer::refusal::Refusal>;
 type Next = fn(&Catalogue, &[u64], &mut Store, &mut Record, u64, &mut [u64]) -> (Outcome, rule::Counts);
 
-/// Drains the tables by one of the two forms in Rust.
-fn by_rust(tables: &Tables, room: &mut Room, open: Open, next: Next) -> Drained {
+/// Drains the tables by one of the two forms in Rust, each call with this budget.
+fn by_rust(tables: &Tables, room: &mut Room, budget: u64, open: Open, next: Next) -> Drained {
     let (mut store, mut padded) = (room.store(), [0; 63]);
     let (mut record, row_tests) = open(&tables.catalogue, &tables.cells, &mut store).expect("open is refused");
     let mut drained = Drained { row_tests, ..Drained::default() };
     loop {
-        let (outcome, counts) = next(&tables.catalogue, &tables.cells, &mut store, &mut record, u64::MAX, &mut padded);
+        let (outcome, counts) = next(&tables.catalogue, &tables.cells, &mut store, &mut record, budget, &mut padded);
         drained.call([counts.trials, counts.row_tests, counts.looks]);
         match outcome {
             Outcome::Answered(Answer::Set(key)) => drained.set(key, &padded[..tables.catalogue.m as usize]),
             Outcome::Answered(Answer::Finished) => return drained,
+            Outcome::Answered(Answer::Working) => (),
             other => panic!("the rule in Rust answers {other:?}"),
         }
     }
@@ -114,61 +122,6 @@ fn chain() -> Tables {
     tables(9, &shapes, |_, _, _| 1 + random.below(55))
 }
 
-/// The stream of one row beside the whole stream: tables of which few sets hold a row, and one of their rows.
-/// The sets that hold a row of the star are an eighth of all, of the others far fewer.
-fn row_cases() -> Vec<(&'static str, Tables, u64, u64)> {
-    let tick: Vec<(u64, u16)> = (0..8).map(|table| (1 | 2 << table, 255)).collect();
-    let ticks = tables(9, &tick, |_, row, a| if a == 0 { 1 + row } else { row % 100 + 1 });
-    let mut random = Random::new(7);
-    let dense: Vec<(u64, u16)> = [0b00111, 0b01110, 0b11100, 0b11001, 0b10011, 0b10101, 0b01010, 0b01101].iter().map(|&scheme| (scheme, 24)).collect();
-    vec![
-        ("row 8 of a star of four tables", make::star(&[8, 8, 8, 8]), 3, 8),
-        ("row 30 of a chain of eight tables", chain(), 4, 30),
-        ("row 200 of eight tables sharing a tick", ticks, 7, 200),
-        ("row 20 of dense random tables", tables(5, &dense, |_, _, _| random.below(5)), 7, 20),
-    ]
-}
-
-/// Drains the stream of every set, or of the sets that hold a row, by the library's calls for C.
-fn row_drained(tables: &Tables, room: &mut Room, row: Option<(u64, u64)>) -> Drained {
-    let catalogue = words::words_of(&tables.catalogue);
-    let (mut store, mut record, mut result, mut padded) = (room.store(), [0; HOLDING], [0; RESULT], [0; 63]);
-    let opened = match row {
-        None => library::open(&catalogue, &tables.cells, &mut store, &mut record),
-        Some((table, row)) => library::open_holding(&catalogue, &tables.cells, &mut store, table, row, &mut record),
-    };
-    let next = if row.is_some() { library::next_holding } else { library::next };
-    let mut drained = Drained { row_tests: opened / 32, ..Drained::default() };
-    loop {
-        let call = Call { record: &mut record, budget: u64::MAX, padded: &mut padded, result: &mut result };
-        let answer = next(&catalogue, &tables.cells, &mut store, call);
-        drained.call([result[1], result[2], result[3]]);
-        match answer {
-            32 => drained.set(result[0], &padded[..tables.catalogue.m as usize]),
-            64 => return drained,
-            other => panic!("the library answers {other}"),
-        }
-    }
-}
-
-/// Drains one row's stream and the whole one, and prints the sets, the trials and the time of the first beside those of the second.
-/// Trials are N for each set.
-fn row_drain(name: &str, tables: &Tables, row: (u64, u64), repeats: usize) {
-    let mut room = Room { keys: vec![0; RECORDS], left: vec![0; RECORDS], right: vec![0; RECORDS] };
-    let rows: u64 = tables.catalogue.rows.iter().map(|&rows| u64::from(rows)).sum();
-    let forms = [Some(row), None];
-    let [ours, whole] = forms.map(|row| row_drained(tables, &mut room, row));
-    assert!(ours.trials == ours.sets * rows && whole.trials == whole.sets * rows, "{name}: {ours:?} of {whole:?} with {rows} rows");
-    let [time, all] = best(repeats, |form| {
-        black_box(row_drained(tables, &mut room, forms[form]));
-    });
-    let share = |part: u64, whole: u64| part as f64 / whole as f64;
-    println!(
-        "{name:<42} {:>6} of {:>5} sets  {:>7} trials (x {rows})  {:>9.6} s  {:>6.4} of the trials  {:>6.4} of the row tests  {:>6.4} of the time",
-        ours.sets, whole.sets, ours.trials, time, share(ours.trials, whole.trials), share(ours.row_tests, whole.row_tests), time / all
-    );
-}
-
 /// The tables of a case as SQL, and the query that joins them; it prints the number of its rows.
 /// Nested full outer joins give the row sets where tables touch as a tree and no cell is null.
 fn sql(made: &Tables) -> String {
@@ -188,18 +141,50 @@ fn sql(made: &Tables) -> String {
     text + &format!("-- query\nselect * from t0 {}\n", joins.join(" "))
 }
 
-/// (a) to (e), each with its name.
-fn cases() -> Vec<(&'static str, Tables)> {
+/// Eight tables that share a tick, each with an attribute of its own.
+fn ticks() -> Tables {
+    let shapes: Vec<(u64, u16)> = (0..8).map(|table| (1 | 2 << table, 255)).collect();
+    tables(9, &shapes, |_, row, a| if a == 0 { 1 + row } else { row % 100 + 1 })
+}
+
+/// The same tables with the rows of each in falling order. A stream takes them; an image they make not.
+fn turned(mut made: Tables) -> Tables {
+    let mut place = 0;
+    for table in 0..made.catalogue.n as usize {
+        let (size, width) = (made.catalogue.size(table), made.catalogue.width(table));
+        let rows: Vec<u64> = made.cells[place..place + size].chunks(width).rev().flatten().copied().collect();
+        made.cells[place..place + size].copy_from_slice(&rows);
+        place += size;
+    }
+    made
+}
+
+/// A case: its letter and name, its tables, and the budget of each call of a drain.
+struct Case {
+    letter: &'static str,
+    name: &'static str,
+    tables: Tables,
+    budget: u64,
+}
+
+/// A case that is drained with all the trials that a call can make.
+fn case(letter: &'static str, name: &'static str, tables: Tables) -> Case {
+    Case { letter, name, tables, budget: u64::MAX }
+}
+
+/// (a) to (e), (h) and (i).
+fn cases() -> Vec<Case> {
     let mut random = Random::new(7);
-    let tick: Vec<(u64, u16)> = (0..8).map(|table| (1 | 2 << table, 255)).collect();
     let wide = [((1 << 63) - 1, 43), ((1 << 63) - 1, 43), ((1 << 63) - 1, 43)];
     let dense: Vec<(u64, u16)> = [0b00111, 0b01110, 0b11100, 0b11001, 0b10011, 0b10101, 0b01010, 0b01101].iter().map(|&scheme| (scheme, 24)).collect();
     vec![
-        ("a star of four tables, 4,096 sets", make::star(&[8, 8, 8, 8])),
-        ("a chain of eight tables of 60 rows", chain()),
-        ("eight tables of 255 rows sharing a tick", tables(9, &tick, |_, row, a| if a == 0 { 1 + row } else { row % 100 + 1 })),
-        ("three tables of 63 attributes", tables(63, &wide, |table, row, a| if a == 62 && row % 3 == table as u64 { row } else { row % 5 + 2 })),
-        ("dense random tables", tables(5, &dense, |_, _, _| random.below(5))),
+        case("a", "a star of four tables, 4,096 sets", make::star(&[8, 8, 8, 8])),
+        case("b", "a chain of eight tables of 60 rows", chain()),
+        case("c", "eight tables of 255 rows sharing a tick", ticks()),
+        case("d", "three tables of 63 attributes", tables(63, &wide, |table, row, a| if a == 62 && row % 3 == table as u64 { row } else { row % 5 + 2 })),
+        case("e", "dense random tables", tables(5, &dense, |_, _, _| random.below(5))),
+        case("h", "(c) with rows in falling order", turned(ticks())),
+        Case { letter: "i", name: "(c) with budget 1", tables: ticks(), budget: 1 },
     ]
 }
 
@@ -219,21 +204,54 @@ fn best<const FORMS: usize>(repeats: usize, mut run: impl FnMut(usize)) -> [f64;
     best
 }
 
+/// Room for the longest drain.
+fn room() -> Room {
+    Room { keys: vec![0; RECORDS], left: vec![0; RECORDS], right: vec![0; RECORDS] }
+}
+
+/// One drain of a case by one of the three forms.
+fn drained(case: &Case, room: &mut Room, form: usize) -> Drained {
+    match form {
+        0 => by_library(&case.tables, room, Asked::EverySet, case.budget),
+        1 => by_rust(&case.tables, room, case.budget, rule::open, rule::next),
+        _ => by_rust(&case.tables, room, case.budget, swift::open, swift::next),
+    }
+}
+
 /// Drains one case in the three forms, compares them, and prints the ratios.
-fn drain(name: &str, tables: &Tables, repeats: usize) {
-    let mut room = Room { keys: vec![0; RECORDS], left: vec![0; RECORDS], right: vec![0; RECORDS] };
-    let form = |room: &mut Room, form: usize| match form {
-        0 => by_library(tables, room),
-        1 => by_rust(tables, room, rule::open, rule::next),
-        _ => by_rust(tables, room, swift::open, swift::next),
-    };
-    let ours = form(&mut room, 0);
-    assert_eq!(ours, form(&mut room, 1), "{name}: the rule as worded differs");
-    assert_eq!(ours, form(&mut room, 2), "{name}: the rule with shortcuts differs");
+fn drain(case: &Case, repeats: usize) {
+    let mut room = room();
+    let ours = drained(case, &mut room, 0);
+    assert_eq!(ours, drained(case, &mut room, 1), "{}: the rule as worded differs", case.name);
+    assert_eq!(ours, drained(case, &mut room, 2), "{}: the rule with shortcuts differs", case.name);
     let [library, worded, swift] = best(repeats, |number| {
-        black_box(form(&mut room, number));
+        black_box(drained(case, &mut room, number));
     });
-    println!("{name:<42} {:>6} sets  {:>9.6} s  {:>6.3} of worded  {:>6.3} of shortcuts", ours.sets, library, library / worded, library / swift);
+    let each = library / ours.trials as f64 * 1e9;
+    println!(
+        "({}) {:<40} {:>6} sets  {library:>9.6} s  {each:>6.0} ns a trial  {:>6.3} of worded  {:>6.3} of shortcuts",
+        case.letter, case.name, ours.sets, library / worded, library / swift
+    );
+}
+
+/// Rows of the cases of that letter, by table and number: few of a case's sets hold one, of the star an eighth.
+const ROWS: [(&str, u64, u64); 4] = [("a", 3, 8), ("b", 4, 30), ("c", 7, 200), ("e", 7, 20)];
+
+/// Drains the stream of one row and that of every set, and prints the first beside the second. A stream's trials are N for each of its sets.
+fn row_drain(case: &Case, table: u64, row: u64, repeats: usize) {
+    let mut room = room();
+    let rows: u64 = case.tables.catalogue.rows.iter().map(|&rows| u64::from(rows)).sum();
+    let streams = [Asked::Holding { table, row }, Asked::EverySet];
+    let [ours, all] = streams.map(|asked| by_library(&case.tables, &mut room, asked, case.budget));
+    assert!(ours.trials == ours.sets * rows && all.trials == all.sets * rows, "{}: {ours:?} of {all:?} in {rows} rows", case.name);
+    let [time, whole] = best(repeats, |number| {
+        black_box(by_library(&case.tables, &mut room, streams[number], case.budget));
+    });
+    let trials = ours.trials as f64 / all.trials as f64;
+    println!(
+        "({}) table {table}, row {row:<3} {:>4} of {:>4} sets  {:>5} of {:>6} trials  {time:>9.6} s  {trials:>6.4} of the trials  {:>6.4} of the time",
+        case.letter, ours.sets, all.sets, ours.trials, all.trials, time / whole
+    );
 }
 
 /// Checks one image in both forms and prints the ratio.
@@ -252,24 +270,63 @@ fn check(name: &str, tables: &Tables, repeats: usize) {
     println!("{name:<42} {:>6} bytes {:>9.6} s  {:>6.3} of a Rust reading", image.len(), library / rounds as f64, library / rust);
 }
 
-/// Times every case, first the drains, then the checks of their images.
+/// Tables of 8,192 cells, as many as an image ever has: eight of eight attributes and 128 rows, every code from `least` on and near it.
+fn full(least: u64) -> Tables {
+    let shapes = [(0xff, 128); 8];
+    tables(8, &shapes, |table, row, a| if a == 0 { least + row - 1 } else { least + (row + table as u64 + u64::from(a)) % 100 })
+}
+
+/// Writes one image in both forms and prints the ratio.
+fn write(name: &str, tables: &Tables, repeats: usize) {
+    let catalogue = words::words_of(&tables.catalogue);
+    let mut out = make::good(tables);
+    let answer = 32 * out.len() as u64;
+    let rounds = 20_000_000 / out.len();
+    let [library, rust] = best(repeats, |form| {
+        for _ in 0..rounds {
+            let lent = black_box(&mut out);
+            match form {
+                0 => assert!(library::write(&catalogue, &tables.cells, lent) == answer),
+                _ => assert!(words::write(&catalogue, &tables.cells, lent) == answer),
+            }
+        }
+    });
+    println!("{name:<42} {:>6} bytes {:>9.6} s  {:>6.3} of a Rust writing", out.len(), library / rounds as f64, library / rust);
+}
+
+/// Does what its words say.
 fn main() {
-    let word = std::env::args().nth(1);
-    if word.as_deref() == Some("sql") {
-        return print!("{}", sql(&chain()));
-    }
-    let repeats = word.map_or(5, |word| word.parse().expect("use: peer-bench [repeats] | sql"));
+    let words: Vec<String> = std::env::args().skip(1).collect();
+    let use_ = "use: peer-bench [repeats] | once LETTER FORM | sql";
     assert!(!library::MOCK, "without the library there is nothing to time");
-    println!("drains, the best of {repeats}:");
-    for (name, tables) in cases() {
-        drain(name, &tables, repeats);
+    match words.iter().map(String::as_str).collect::<Vec<_>>()[..] {
+        ["sql"] => print!("{}", sql(&chain())),
+        ["once", letter, form] => {
+            let case = cases().into_iter().find(|case| case.letter == letter).expect(use_);
+            println!("{:?}", drained(&case, &mut room(), form.parse().expect(use_)));
+        }
+        [] => all(5),
+        [repeats] => all(repeats.parse().expect(use_)),
+        _ => panic!("{use_}"),
     }
-    println!("drains of one row beside the whole stream, the best of {repeats}:");
-    for (name, tables, table, row) in row_cases() {
-        row_drain(name, &tables, (table, row), repeats);
+}
+
+/// Times every case, first the drains, then those of one row, then the checks of the images of (a) to (e); then the largest images written.
+fn all(repeats: usize) {
+    println!("drains, the best of {repeats}:");
+    for case in cases() {
+        drain(&case, repeats);
+    }
+    println!("drains of the sets that hold one row, beside those of every set, the best of {repeats}:");
+    for (letter, table, row) in ROWS {
+        let case = cases().into_iter().find(|case| case.letter == letter).expect("no such case");
+        row_drain(&case, table, row, repeats);
     }
     println!("checks of the same images, the best of {repeats}:");
-    for (name, tables) in cases() {
-        check(name, &tables, repeats);
+    for case in cases().iter().filter(|case| "abcde".contains(case.letter)) {
+        check(case.name, &case.tables, repeats);
     }
+    println!("the largest images written, the best of {repeats}:");
+    write("8,192 cells, codes below 128", &full(0), repeats);
+    write("8,192 cells, codes near 2^63", &full((1 << 63) - 200), repeats);
 }
