@@ -5,8 +5,8 @@
 use peer::image::{self, Catalogue};
 use peer::make::{self, Tables};
 use peer::random::Random;
-use peer::rule::{self, Answer, Outcome, Record, Store};
-use peer::words::{self, Call, HOLDING, RECORD, RESULT};
+use peer::rule::{self, Answer, Asked, Outcome, Record, Store};
+use peer::words::{self, Call, HOLDING, RESULT};
 use peer::{library, swift};
 use std::hint::black_box;
 use std::time::Instant;
@@ -56,14 +56,19 @@ impl Room {
     }
 }
 
-/// Drains the tables by the library's calls for C, each with this budget.
-fn by_library(tables: &Tables, room: &mut Room, budget: u64) -> Drained {
+/// Drains the tables by the library's calls for C, each with this budget: of every set, or of those that hold a row of a table.
+fn by_library(tables: &Tables, room: &mut Room, asked: Asked, budget: u64) -> Drained {
     let catalogue = words::words_of(&tables.catalogue);
-    let (mut store, mut record, mut result, mut padded) = (room.store(), [0; RECORD], [0; RESULT], [0; 63]);
-    let mut drained = Drained { row_tests: library::open(&catalogue, &tables.cells, &mut store, &mut record) / 32, ..Drained::default() };
+    let (mut store, mut record, mut result, mut padded) = (room.store(), [0; HOLDING], [0; RESULT], [0; 63]);
+    let next = if asked == Asked::EverySet { library::next } else { library::next_holding };
+    let opened = match asked {
+        Asked::EverySet => library::open(&catalogue, &tables.cells, &mut store, &mut record),
+        Asked::Holding { table, row } => library::open_holding(&catalogue, &tables.cells, &mut store, table, row, &mut record),
+    };
+    let mut drained = Drained { row_tests: opened / 32, ..Drained::default() };
     loop {
         let call = Call { record: &mut record, budget, padded: &mut padded, result: &mut result };
-        let answer = library::next(&catalogue, &tables.cells, &mut store, call);
+        let answer = next(&catalogue, &tables.cells, &mut store, call);
         drained.call([result[1], result[2], result[3]]);
         match answer {
             32 => drained.set(result[0], &padded[..tables.catalogue.m as usize]),
@@ -115,61 +120,6 @@ fn chain() -> Tables {
     let mut random = Random::new(7);
     let shapes: Vec<(u64, u16)> = (0..8).map(|table| (3 << table, 60)).collect();
     tables(9, &shapes, |_, _, _| 1 + random.below(55))
-}
-
-/// The stream of one row beside the whole stream: tables of which few sets hold a row, and one of their rows.
-/// The sets that hold a row of the star are an eighth of all, of the others far fewer.
-fn row_cases() -> Vec<(&'static str, Tables, u64, u64)> {
-    let tick: Vec<(u64, u16)> = (0..8).map(|table| (1 | 2 << table, 255)).collect();
-    let ticks = tables(9, &tick, |_, row, a| if a == 0 { 1 + row } else { row % 100 + 1 });
-    let mut random = Random::new(7);
-    let dense: Vec<(u64, u16)> = [0b00111, 0b01110, 0b11100, 0b11001, 0b10011, 0b10101, 0b01010, 0b01101].iter().map(|&scheme| (scheme, 24)).collect();
-    vec![
-        ("row 8 of a star of four tables", make::star(&[8, 8, 8, 8]), 3, 8),
-        ("row 30 of a chain of eight tables", chain(), 4, 30),
-        ("row 200 of eight tables sharing a tick", ticks, 7, 200),
-        ("row 20 of dense random tables", tables(5, &dense, |_, _, _| random.below(5)), 7, 20),
-    ]
-}
-
-/// Drains the stream of every set, or of the sets that hold a row, by the library's calls for C.
-fn row_drained(tables: &Tables, room: &mut Room, row: Option<(u64, u64)>) -> Drained {
-    let catalogue = words::words_of(&tables.catalogue);
-    let (mut store, mut record, mut result, mut padded) = (room.store(), [0; HOLDING], [0; RESULT], [0; 63]);
-    let opened = match row {
-        None => library::open(&catalogue, &tables.cells, &mut store, &mut record),
-        Some((table, row)) => library::open_holding(&catalogue, &tables.cells, &mut store, table, row, &mut record),
-    };
-    let next = if row.is_some() { library::next_holding } else { library::next };
-    let mut drained = Drained { row_tests: opened / 32, ..Drained::default() };
-    loop {
-        let call = Call { record: &mut record, budget: u64::MAX, padded: &mut padded, result: &mut result };
-        let answer = next(&catalogue, &tables.cells, &mut store, call);
-        drained.call([result[1], result[2], result[3]]);
-        match answer {
-            32 => drained.set(result[0], &padded[..tables.catalogue.m as usize]),
-            64 => return drained,
-            other => panic!("the library answers {other}"),
-        }
-    }
-}
-
-/// Drains one row's stream and the whole one, and prints the sets, the trials and the time of the first beside those of the second.
-/// Trials are N for each set.
-fn row_drain(name: &str, tables: &Tables, row: (u64, u64), repeats: usize) {
-    let mut room = Room { keys: vec![0; RECORDS], left: vec![0; RECORDS], right: vec![0; RECORDS] };
-    let rows: u64 = tables.catalogue.rows.iter().map(|&rows| u64::from(rows)).sum();
-    let forms = [Some(row), None];
-    let [ours, whole] = forms.map(|row| row_drained(tables, &mut room, row));
-    assert!(ours.trials == ours.sets * rows && whole.trials == whole.sets * rows, "{name}: {ours:?} of {whole:?} with {rows} rows");
-    let [time, all] = best(repeats, |form| {
-        black_box(row_drained(tables, &mut room, forms[form]));
-    });
-    let share = |part: u64, whole: u64| part as f64 / whole as f64;
-    println!(
-        "{name:<42} {:>6} of {:>5} sets  {:>7} trials (x {rows})  {:>9.6} s  {:>6.4} of the trials  {:>6.4} of the row tests  {:>6.4} of the time",
-        ours.sets, whole.sets, ours.trials, time, share(ours.trials, whole.trials), share(ours.row_tests, whole.row_tests), time / all
-    );
 }
 
 /// The tables of a case as SQL, and the query that joins them; it prints the number of its rows.
@@ -262,7 +212,7 @@ fn room() -> Room {
 /// One drain of a case by one of the three forms.
 fn drained(case: &Case, room: &mut Room, form: usize) -> Drained {
     match form {
-        0 => by_library(&case.tables, room, case.budget),
+        0 => by_library(&case.tables, room, Asked::EverySet, case.budget),
         1 => by_rust(&case.tables, room, case.budget, rule::open, rule::next),
         _ => by_rust(&case.tables, room, case.budget, swift::open, swift::next),
     }
@@ -281,6 +231,26 @@ fn drain(case: &Case, repeats: usize) {
     println!(
         "({}) {:<40} {:>6} sets  {library:>9.6} s  {each:>6.0} ns a trial  {:>6.3} of worded  {:>6.3} of shortcuts",
         case.letter, case.name, ours.sets, library / worded, library / swift
+    );
+}
+
+/// Rows of the cases of that letter, by table and number: few of a case's sets hold one, of the star an eighth.
+const ROWS: [(&str, u64, u64); 4] = [("a", 3, 8), ("b", 4, 30), ("c", 7, 200), ("e", 7, 20)];
+
+/// Drains the stream of one row and that of every set, and prints the first beside the second. A stream's trials are N for each of its sets.
+fn row_drain(case: &Case, table: u64, row: u64, repeats: usize) {
+    let mut room = room();
+    let rows: u64 = case.tables.catalogue.rows.iter().map(|&rows| u64::from(rows)).sum();
+    let streams = [Asked::Holding { table, row }, Asked::EverySet];
+    let [ours, all] = streams.map(|asked| by_library(&case.tables, &mut room, asked, case.budget));
+    assert!(ours.trials == ours.sets * rows && all.trials == all.sets * rows, "{}: {ours:?} of {all:?} in {rows} rows", case.name);
+    let [time, whole] = best(repeats, |number| {
+        black_box(by_library(&case.tables, &mut room, streams[number], case.budget));
+    });
+    let trials = ours.trials as f64 / all.trials as f64;
+    println!(
+        "({}) table {table}, row {row:<3} {:>4} of {:>4} sets  {:>5} of {:>6} trials  {time:>9.6} s  {trials:>6.4} of the trials  {:>6.4} of the time",
+        case.letter, ours.sets, all.sets, ours.trials, all.trials, time / whole
     );
 }
 
@@ -341,15 +311,16 @@ fn main() {
     }
 }
 
-/// Times every case, first the drains, of every set and of one row, then the checks of the images of (a) to (e); then the largest images written.
+/// Times every case, first the drains, then those of one row, then the checks of the images of (a) to (e); then the largest images written.
 fn all(repeats: usize) {
     println!("drains, the best of {repeats}:");
     for case in cases() {
         drain(&case, repeats);
     }
-    println!("drains of one row beside the whole stream, the best of {repeats}:");
-    for (name, tables, table, row) in row_cases() {
-        row_drain(name, &tables, (table, row), repeats);
+    println!("drains of the sets that hold one row, beside those of every set, the best of {repeats}:");
+    for (letter, table, row) in ROWS {
+        let case = cases().into_iter().find(|case| case.letter == letter).expect("no such case");
+        row_drain(&case, table, row, repeats);
     }
     println!("checks of the same images, the best of {repeats}:");
     for case in cases().iter().filter(|case| "abcde".contains(case.letter)) {
