@@ -10,7 +10,7 @@ use Rattle.laws.specs.Lists.{over, Placed}
 use Rattle.laws.proofs.ListLaws.{put-cons, put-nil, length-tab}
 use Rattle.laws.proofs.PlacedLaws.{placed-length, placed-rest}
 use Rattle.keys.specs.Keys.{bitsPerRow, rowOf, rowsIn}
-use Rattle.lines.specs.Lines.{bytes, mostField, field, value, each, fields, values}
+use Rattle.lines.specs.Lines.{bytes, mostField, setRoom, field, value, each, fields, values, line, paddedEnd, setLine}
 use Rattle.lines.proofs.DecimalLaws.{decimal-few}
 
 -- The element at a place is put there; those behind it stay.
@@ -111,3 +111,12 @@ rows-few n key = rw (length-tab n (rowOf bitsPerRow key)) at (each-few field fie
 
 pub values-few : (codes : List ℕ) (m : ℕ) → m ≤ length codes → length (values (take m codes)) ≤ mostField * m
 values-few codes m h = rw (length-take-le m codes h) at (each-few value value-few (take m codes))
+
+-- How long a line is at most.
+pub line-few : (word xs : List ℕ) → length (line word xs) ≤ length word + mostField * length xs + 1
+unfolding line
+line-few word xs = simp length-append (omega (arith, each-few field field-few xs))
+
+pub set-few : (n key m : ℕ) (codes : List ℕ) → m ≤ length codes → length (setLine (rowsIn bitsPerRow n key) (take m codes)) ≤ setRoom n m
+unfolding setLine paddedEnd
+set-few n key m codes h = simp length-append (omega (arith, rows-few n key, values-few codes m h))
