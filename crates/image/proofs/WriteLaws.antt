@@ -11,8 +11,8 @@ use mathlib.Core.List.{List, [], _∷_, _++_, append-assoc}
 use lib.ListN.{length, take, getD, length-append}
 use lib.Count.{ones}
 use borrow.Author.Tests.{lt-ltb, le-ltb, le-leb, lt-leb}
-use Rattle.laws.specs.Lists.{part, over}
-use Rattle.laws.proofs.ListLaws.{part-none, part-more, part-append, length-over, over-append}
+use Rattle.laws.specs.Lists.{part}
+use Rattle.laws.proofs.ListLaws.{part-none, part-more, part-append}
 use Rattle.laws.proofs.TestLaws.{which, clash}
 use Rattle.numbers.specs.Numbers.{mostBytes, encodeIn, encode}
 use Rattle.tables.specs.declared.Catalogue.{Catalogue}
@@ -22,7 +22,7 @@ use Rattle.tables.specs.Rows.{below}
 use Rattle.tables.proofs.CatalogueLaws.{cells-next, table-ends}
 use Rattle.image.specs.declared.Written.the-variants.{Length, Refused}
 use Rattle.image.specs.Load.{version}
-use Rattle.image.specs.Write.{encodes, cellsOf, tablesImage, imageOf, tooHigh, rowsFault, writeFault, lengthFault, written, Placed}
+use Rattle.image.specs.Write.{encodes, cellsOf, tablesImage, imageOf, tooHigh, rowsFault, writeFault, lengthFault, written}
 use Rattle.image.proofs.AcceptLaws.{fault-accepted}
 
 -- ---- 10
@@ -138,23 +138,6 @@ module _ (cells : List ℕ) where
 
   pub run-few : (a k : ℕ) → length (encodes (part a k cells)) ≤ mostBytes * k
   run-few a k = encodes-few k _
-
--- ---- bytes in their place
-
-module _ {bs lent after : List ℕ} {a n : ℕ} (h : a + length bs ≤ length lent) (p : Placed bs a lent n after) where
-  pub placed-length : length after ≡ length lent
-  placed-length = ap length (p .bytes) ∙ length-over a bs lent h
-
-  -- What is left to place behind them makes the whole.
-  pub placed-rest : (cs : List ℕ) → over a (bs ++ cs) lent ≡ over n cs after
-  placed-rest cs = sym (rw (p .bytes) (over-append a n bs cs lent (omega arith) (p .next)))
-
-  placed-append : {cs end : List ℕ} {k : ℕ} → Placed cs n after k end → Placed (bs ++ cs) a lent k end
-  placed-append {cs} q = record { next = omega (arith, p .next, q .next, length-append bs cs); bytes = q .bytes ∙ sym (placed-rest cs) }
-
--- Three parts, each placed behind the one before, are one.
-pub placed-three : {x y z l₀ l₁ l₂ l₃ : List ℕ} {a b d e : ℕ} → a + length x + length y ≤ length l₀ → Placed x a l₀ b l₁ → Placed y b l₁ d l₂ → Placed z d l₂ e l₃ → Placed (x ++ (y ++ z)) a l₀ e l₃
-placed-three h p q r = placed-append (omega arith) p (placed-append (omega (arith, p .next, placed-length (omega arith) p)) q r)
 
 -- ---- table by table
 

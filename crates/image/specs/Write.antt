@@ -7,7 +7,7 @@ use mathlib.Core.Bool.{Bool, true, false, cond, _||_}
 use lib.ListN.{length}
 use lib.Count.{ones}
 use lib.Dec.{ltb, leb}
-use Rattle.laws.specs.Lists.{put, over, part}
+use Rattle.laws.specs.Lists.{put, part}
 use Rattle.numbers.specs.Numbers.{encode}
 use Rattle.tables.specs.declared.Catalogue.{Catalogue}
 use Rattle.tables.specs.Catalogues.{schemeOf, countOf, firstCell}
@@ -86,11 +86,6 @@ written cat cells room = writtenOf (firstOf (writeFault cat cells) (lengthFault 
 abbrev pub bytesAfter : Written → List ℕ → List ℕ → List ℕ
 bytesAfter (Length n) new old = put new old
 bytesAfter (Refused k) new old = old
-
--- The bytes bs stand in the lent ones from place a on, and n is the place behind them.
-pub record Placed (bs : List ℕ) (a : ℕ) (lent : List ℕ) (n : ℕ) (after : List ℕ) : Type 0 where
-  pub next : n ≡ a + length bs
-  pub bytes : after ≡ over a bs lent
 
 -- What a write into the lent bytes gives, and what these hold then.
 pub record Writes (cat : Catalogue) (cells lent : List ℕ) (r : Written) (after : List ℕ) : Type 0 where

@@ -4,10 +4,10 @@ ghost use mathlib.Core.Bool.{false};
 ghost use mathlib.Core.List.{_++_};
 ghost use Prim.Native.Nat.{_+_, _^_, _≤_, _<_};
 ghost use lib.ListN.{length};
-ghost use Rattle.laws.specs.Lists.{put, part};
+ghost use Rattle.laws.specs.Lists.{put, part, Placed};
 ghost use Rattle.numbers.specs.Numbers.{encode};
 ghost use Rattle.image.specs.Load.{version};
-ghost use Rattle.image.specs.Write.{encodes, imageOf, tooHigh, writeFault, Placed};
+ghost use Rattle.image.specs.Write.{encodes, imageOf, tooHigh, writeFault};
 use tables::Catalogue;
 
 // Writes one number from a place on, and gives the place behind it.

@@ -1,7 +1,7 @@
 -- `image::putter::put_head` meets its contract: three numbers, each placed behind the one before, are one part. Assumes nothing.
 use native.Mathlib.Omega.{arith}
 use borrow.Author.Needs.{needs}
-use Rattle.image.proofs.WriteLaws.{placed-three}
+use Rattle.laws.proofs.PlacedLaws.{placed-three}
 use Rattle.image.proofs.putter.put_head.Statement.{statement}
 use Rattle.image.proofs.putter.put_head.Tie as tie
 

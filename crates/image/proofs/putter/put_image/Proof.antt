@@ -11,7 +11,8 @@ use Rattle.tables.specs.Sizes.{mostTables}
 use Rattle.tables.specs.Catalogues.{firstCell}
 use Rattle.image.specs.Write.{tablesImage, imageOf}
 use Rattle.image.proofs.AcceptLaws.{fault-accepted}
-use Rattle.image.proofs.WriteLaws.{tableBytes, headBytes, head-three, Table, table-good, head-length, image-none, image-head, placed-length, placed-rest}
+use Rattle.laws.proofs.PlacedLaws.{placed-length, placed-rest}
+use Rattle.image.proofs.WriteLaws.{tableBytes, headBytes, head-three, Table, table-good, head-length, image-none, image-head}
 use Rattle.image.proofs.putter.put_image.Statement.{statement}
 use Rattle.image.proofs.putter.put_image.Tie as tie
 

@@ -8,7 +8,8 @@ use mathlib.Core.Bool.{false}
 use Rattle.laws.specs.Lists.{part, over}
 use Rattle.laws.proofs.ListLaws.{put-nil}
 use Rattle.image.specs.Write.{encodes, tooHigh}
-use Rattle.image.proofs.WriteLaws.{low-next, run-none, run-more, run-length, placed-length, placed-rest}
+use Rattle.laws.proofs.PlacedLaws.{placed-length, placed-rest}
+use Rattle.image.proofs.WriteLaws.{low-next, run-none, run-more, run-length}
 use Rattle.image.proofs.putter.put_run.Statement.{statement}
 use Rattle.image.proofs.putter.put_run.Tie as tie
 

@@ -1,7 +1,7 @@
 -- `image::putter::put_table` meets its contract: three parts, each placed behind the one before, are one. Assumes nothing.
 use native.Mathlib.Omega.{arith}
 use borrow.Author.Needs.{needs}
-use Rattle.image.proofs.WriteLaws.{placed-three}
+use Rattle.laws.proofs.PlacedLaws.{placed-three}
 use Rattle.image.proofs.putter.put_table.Statement.{statement}
 use Rattle.image.proofs.putter.put_table.Tie as tie
 
