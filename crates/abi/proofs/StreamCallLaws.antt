@@ -20,7 +20,7 @@ use Rattle.disjunction.specs.Asked.{everySet}
 use Rattle.disjunction.proofs.Extending.{extension-valid}
 use Rattle.rows.specs.World.{worldOf}
 use Rattle.rows.proofs.WorldLaws.{rows-total}
-use Rattle.rows.proofs.NamedLaws.{named-valid, named-size, place-there, row-small}
+use Rattle.rows.proofs.NamedLaws.{named-valid, named-size, place-there, row-small, alone-named}
 use Rattle.store.specs.Store.{storeIn}
 use Rattle.machine.specs.Machine.{Called, call, Opened, openFault, firstGrown, opening}
 use Rattle.machine.proofs.RefusalLaws.{open-clear, opening-refused, opening-empty, opening-begun}
@@ -28,7 +28,7 @@ use Rattle.stream.specs.declared.StreamRecord.{StreamRecord}
 use Rattle.stream.specs.declared.StepAnswer.{StepAnswer}
 use Rattle.stream.specs.declared.OpenAnswer.{OpenAnswer}
 use Rattle.stream.specs.Promises.{stateOf, saysOf, calledOf, openedOf}
-use Rattle.stream.proofs.StreamLaws.{alone-named, first-grown}
+use Rattle.stream.proofs.StreamLaws.{first-grown}
 use Rattle.abi.specs.Words.{catalogueWords, catalogueIn}
 use Rattle.abi.specs.Calls.{tooFewWords}
 use Rattle.abi.specs.Streams.{recordWords, resultWords, wordsOfRecord, wordsOfState, recordIn, resultOf, resultOfCall, answerNumber, openedNumber, openShort, nextShort, OpenCall, callIn, NextCall}
