@@ -159,5 +159,6 @@ determined =
       «open_row» = λ cat cells s keys left right r r′ ks ls rs ks′ ls′ rs′ e e′. row-opens-one r r′ ks ls rs ks′ ls′ rs′ (e ∙ sym e′);
       «step_row» = λ cat cells s keys left right row b r r′ ks ls rs w ks′ ls′ rs′ w′ e e′. row-steps-one r r′ ks ls rs w ks′ ls′ rs′ w′ (e ∙ sym e′);
       covers = λ first second r r′ e e′. e ∙ sym e′;
+      «check_list» = λ cat cells words r r′ e e′. e ∙ sym e′;
       check = λ s r r′ e e′. e ∙ sym e′;
     }

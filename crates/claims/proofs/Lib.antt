@@ -20,3 +20,4 @@ pub mod CallExactly
 pub mod RowsExactly
 pub mod WriteExactly
 pub mod Imaged
+pub mod ListChecked

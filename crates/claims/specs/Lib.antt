@@ -6,3 +6,4 @@ pub mod CatalogueRefusals
 pub mod WriteRefusals
 pub mod CallRefusals
 pub mod Images
+pub mod ListChecks

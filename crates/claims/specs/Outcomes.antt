@@ -20,6 +20,8 @@ use Rattle.stream.specs.declared.RowRecord.{RowRecord}
 use Rattle.stream.specs.declared.RowOpenAnswer.{RowOpenAnswer}
 use Rattle.stream.specs.declared.RowStepAnswer.{RowStepAnswer}
 use Rattle.stream.specs.Promises.{stateOf, calledOf, openedOf, rowStateOf, calledRow, openedRow}
+use Rattle.hub.specs.declared.ListVerdict.{ListVerdict}
+use Rattle.hub.specs.Promises.{ChecksList}
 use Rattle.harbour.specs.declared.NextAnswer.{NextAnswer}
 use Rattle.harbour.specs.Answers.{withRecord}
 
@@ -49,4 +51,5 @@ pub record OneOutcome : Type 0 where
       → calledRow r′ ks′ ls′ rs′ w′ ≡ call cat cells b (rowStateOf s keys left right) row
       → (r ≡ r′) × (ks ≡ ks′) × (ls ≡ ls′) × (rs ≡ rs′) × (w ≡ w′)
   pub covers : (first second : List ℕ) (r r′ : Bool) → r ≡ covering first second → r′ ≡ covering first second → r ≡ r′
+  pub «check_list» : (cat : Catalogue) (cells words : List ℕ) (r r′ : ListVerdict) → ChecksList cat cells words r → ChecksList cat cells words r′ → r ≡ r′
   pub check : (s : List ℕ) (r r′ : ℕ) → r ≡ checkOf s → r′ ≡ checkOf s → r ≡ r′

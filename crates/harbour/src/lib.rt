@@ -1,4 +1,4 @@
-// The public calls of the library: load and write an image, open a stream and move it on, and ask whether one padded row covers another.
+// The public calls of the library: load and write an image, open a stream and move it on, check a list of sets, and ask whether one padded row covers another.
 // None asks anything of its caller, and each promise stands here once: one outcome for every input, refusals too.
 ghost use mathlib.Core.Path.{_≡_};
 ghost use Rattle.padding.specs.Covering.{covering};
@@ -6,7 +6,9 @@ ghost use Rattle.image.specs.Load.{Loads};
 ghost use Rattle.image.specs.Write.{Writes};
 ghost use Rattle.machine.specs.Machine.{call, opening};
 ghost use Rattle.stream.specs.Promises.{stateOf, calledOf, openedOf};
+ghost use Rattle.hub.specs.Promises.{ChecksList};
 ghost use Rattle.harbour.specs.Answers.{withRecord};
+pub use hub::ListVerdict;
 pub use image::Loaded;
 pub use image::Verdict;
 pub use image::Written;
@@ -114,4 +116,12 @@ pub fn covers(first: &[u64], second: &[u64]) -> bool
     ensures { λ r. ⌜ r ≡ covering (now (first .entry)) (now (second .entry)) ⌝ }
 {
     padding::covers(first, second)
+}
+
+// Checks a list of keys, as the regional hub sends it: whether it holds every maximal set once and nothing else, in any order.
+// A no names the first entry that is none or a repeat, or else the first set not listed that the trials over the listed sets reach.
+pub fn check_list(cat: Catalogue, cells: &[u64], listed: &[u64]) -> ListVerdict
+    ensures { λ r. ⌜ ChecksList cat (now (cells .entry)) (now (listed .entry)) r ⌝ }
+{
+    hub::check_list(cat, cells, listed)
 }

@@ -3,13 +3,13 @@
 use Prim.Native.Nat.{ℕ, _<_}
 use native.Mathlib.Omega.{arith}
 use native.Mathlib.Nat.{eq-zero-or-pos}
-use mathlib.Core.Path.{_≡_, refl, ap, subst}
+use mathlib.Core.Path.{_≡_, refl, ap, subst, _∙_}
 use mathlib.Core.Logic.{_⊎_, inl, inr, ⊎-elim, _↔_}
 use mathlib.Core.Bool.{Bool, true, false, not}
 use mathlib.Core.List.{List, [], _∷_, _++_, List·Memᴰ, List·Memᴰ·head, List·Memᴰ·tail, List·Memᴰ·cases-cons, List·Memᴰ·not-nil, Memᴰ·append-left, Memᴰ·append-right, List·Memᴰ·append-cases, Memᴰ·cast}
 use lib.ListN.{length, getD}
-use borrow.Author.Tests.{ne-eqb, not-true}
-use Rattle.laws.specs.Tests.{any, First}
+use borrow.Author.Tests.{eq-eqb, ne-eqb, not-true}
+use Rattle.laws.specs.Tests.{any, lowestBelow, First}
 use Rattle.laws.specs.Distinct.{none}
 use Rattle.laws.proofs.TestLaws.{which, clash, not-yes, yes-iff, or-case, or-left, or-right, any-some, any-of, FirstBelow, first-below, lowest-none, lowest-at}
 use Rattle.laws.proofs.MemberLaws.{mem-at, at-mem}
@@ -71,6 +71,14 @@ sought l (T ∷ k) = go (which (listed l T)) (sought l k)
           },
         )
 
+-- Every set of k is listed, or one that is not is named.
+pub seek-cases : (l k : List (List ℕ)) → (seek l k ≡ right) ⊎ ((T : List ℕ) × (seek l k ≡ missing T) × List·Memᴰ T k)
+seek-cases l k =
+    ⊎-elim
+    (λ f. inl (seek-all l k f))
+    (λ (T, x). inr (T, seek-first l k T x, rw (x .split) (Memᴰ·append-right (x .front) (List·Memᴰ·head refl))))
+    (sought l k)
+
 module _ (W : Tables) where
   -- ---- what the trials reach
 
@@ -83,7 +91,7 @@ module _ (W : Tables) where
       (λ n. List·Memᴰ·tail (tried-all T p s n))
       (List·Memᴰ·cases-cons m)
 
-  tried-from : (T : List ℕ) (p : List Place) (U : List ℕ) → List·Memᴰ U (tried W T p) → (s : Place) × List·Memᴰ s p × (U ≡ trial W T s .rows)
+  pub tried-from : (T : List ℕ) (p : List Place) (U : List ℕ) → List·Memᴰ U (tried W T p) → (s : Place) × List·Memᴰ s p × (U ≡ trial W T s .rows)
   unfolding tried
   tried-from T [] U m = absurd (List·Memᴰ·not-nil m)
   tried-from T (q ∷ p) U m =
@@ -110,10 +118,31 @@ module _ (W : Tables) where
       (λ n. let (X, s, k, r, e) = triedOn-from l U n in (X, s, List·Memᴰ·tail k, r, e))
       (List·Memᴰ·append-cases (tried W T (rows W)) m)
 
-  -- Open finds a set where there is a row.
-  open-some : 0 < length (rows W) → List·Memᴰ (extension W (alone W (rowAt W 0)) .rows) (listOpen W everySet .sets)
+  -- Open finds the extension of the first row, where there is one.
+  open-none : length (rows W) ≡ 0 → listOpen W everySet .sets ≡ []
   unfolding listOpen
-  open-some h = rw (ne-eqb (length (rows W)) 0 (λ e. omega arith)) (List·Memᴰ·head refl)
+  open-none z = rw (eq-eqb (length (rows W)) 0 z)
+
+  open-one : 0 < length (rows W) → listOpen W everySet .sets ≡ extension W (alone W (rowAt W 0)) .rows ∷ []
+  unfolding listOpen
+  open-one h = rw (ne-eqb (length (rows W)) 0 (λ e. omega arith))
+
+  open-some : 0 < length (rows W) → List·Memᴰ (extension W (alone W (rowAt W 0)) .rows) (listOpen W everySet .sets)
+  open-some h = rw (open-one h) (List·Memᴰ·head refl)
+
+  -- The empty list: right without a row, and with one its extension is missing.
+  verdict-empty : verdict W [] ≡ seek [] (listOpen W everySet .sets)
+  unfolding verdict lowestBelow reached
+  verdict-empty = refl
+
+  pub empty-none : length (rows W) ≡ 0 → verdict W [] ≡ right
+  unfolding seek
+  empty-none z = verdict-empty ∙ rw (open-none z)
+
+  pub empty-some : 0 < length (rows W) → verdict W [] ≡ missing (extension W (alone W (rowAt W 0)) .rows)
+  empty-some h =
+      let U = extension W (alone W (rowAt W 0)) .rows in
+      verdict-empty ∙ rw (open-one h) (seek-split [] [] [] U (λ X m. absurd (List·Memᴰ·not-nil m)) (λ m. absurd (List·Memᴰ·not-nil m)))
 
   module _ (S : Symmetric W) where
     -- All of it is maximal.
@@ -160,7 +189,7 @@ module _ (W : Tables) where
         not-yes (spoilt W l i)
         (λ e. ⊎-elim (λ n. n (s .maximal (getD l i []) (mem-at l [] i h))) (λ (j, b, q). distinct-at [] l (s .distinct) i j b h q) (spoilt-iff l i .0 e))
 
-    good-sound : (l : List (List ℕ)) → ((i : ℕ) → i < length l → spoilt W l i ≡ false) → Sound W l
+    pub good-sound : (l : List (List ℕ)) → ((i : ℕ) → i < length l → spoilt W l i ≡ false) → Sound W l
     good-sound l f =
         record {
           distinct = distinct-by [] l (λ i j b h e. clash (spoilt-iff l i .1 (inr (j, b, e))) (f i h));

@@ -197,7 +197,51 @@ fn check(name: &str, tables: &Tables, repeats: usize) {
     println!("{name:<42} {:>6} bytes {:>9.6} s  {:>6.3} of a Rust reading", image.len(), library / rounds as f64, library / rust);
 }
 
-/// Times every case, first the drains, then the checks of their images.
+/// The keys of all sets of the tables, as the library hands them out.
+fn keys_of(tables: &Tables, room: &mut Room) -> Vec<u64> {
+    let drained = by_library(tables, room);
+    room.keys[..drained.sets as usize].to_vec()
+}
+
+/// The same keys in another order.
+fn shuffled(keys: &[u64]) -> Vec<u64> {
+    let (mut list, mut random) = (keys.to_vec(), Random::new(7));
+    for place in (1..list.len()).rev() {
+        list.swap(place, random.below(place as u64 + 1) as usize);
+    }
+    list
+}
+
+/// The check of a right list, which has to find it right.
+fn check_list(tables: &Tables, list: &[u64]) {
+    let answer = library::check_list(&words::words_of(&tables.catalogue), &tables.cells, black_box(list), &mut [0]);
+    assert!(answer == 32, "the check of a right list gives {answer}");
+}
+
+/// Checks the star's list in three orders beside the drain of the same tables, and lists of more and more sets at the same N.
+fn lists(repeats: usize) {
+    let mut room = Room { keys: vec![0; RECORDS], left: vec![0; RECORDS], right: vec![0; RECORDS] };
+    let star = make::star(&[8, 8, 8, 8]);
+    let handed = keys_of(&star, &mut room);
+    let mut sorted = handed.clone();
+    sorted.sort_unstable();
+    let orders = [("as handed out", handed.clone()), ("sorted", sorted), ("shuffled", shuffled(&handed))];
+    for (name, list) in &orders {
+        let [checked, drained] = best(repeats, |form| match form {
+            0 => check_list(&star, list),
+            _ => drop(black_box(by_library(&star, &mut room))),
+        });
+        println!("the star's list, {name:<26} {:>6} sets  {checked:>9.6} s  {:>6.3} of the drain", list.len(), checked / drained);
+    }
+    for counts in [[23, 4, 3, 2], [20, 6, 3, 3], [16, 8, 4, 4], [8, 8, 8, 8]] {
+        let star = make::star(&counts);
+        let list = shuffled(&keys_of(&star, &mut room));
+        let [checked] = best(repeats, |_| check_list(&star, &list));
+        println!("a star of rows {:<29} {:>6} sets  {checked:>9.6} s  {:>6.3} microseconds a set", format!("{counts:?}, N = 32"), list.len(), checked * 1e6 / list.len() as f64);
+    }
+}
+
+/// Times every case, first the drains, then the checks of their images, then the checks of lists.
 fn main() {
     let word = std::env::args().nth(1);
     if word.as_deref() == Some("sql") {
@@ -213,4 +257,6 @@ fn main() {
     for (name, tables) in cases() {
         check(name, &tables, repeats);
     }
+    println!("checks of lists, the best of {repeats}:");
+    lists(repeats);
 }
