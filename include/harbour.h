@@ -1,5 +1,5 @@
 /*
- * Harbour table images: the C door, and the calls on images and streams.
+ * Harbour table images: the C door, and the calls on images, streams and lists.
  *
  * An image holds up to eight tables in one run of bytes. The door tells whether
  * an image is good, and if not, why and where.
@@ -164,6 +164,26 @@ uint64_t harbour_next_holding(const uint64_t *catalogue, size_t catalogue_length
  */
 uint64_t harbour_covers(const uint64_t *first, size_t first_length,
                         const uint64_t *second, size_t second_length);
+
+/*
+ * Checks a list of keys, as another program joined the same tables: whether it
+ * holds every maximal row set once and nothing else, in any order. Any words may be
+ * listed, and the list may have any length. The answer is
+ *
+ *   32   right
+ *   64   the entry whose place, from 0, is in the result is not a maximal set, or
+ *        repeats an earlier one; it is the first such entry
+ *   96   every entry is good, and the set whose key is in the result is missing: the
+ *        first that trials of all rows on the listed sets reach, in the list's order
+ *        (for an empty list, what the first row extends to)
+ *
+ * or one of the refusals 4, 5, 6 and 8. The result is 1 word; with 32 and a refusal
+ * it is 0. No memory is asked for; the call takes about 270 kB of stack.
+ */
+uint64_t harbour_check_list(const uint64_t *catalogue, size_t catalogue_length,
+                            const uint64_t *cells, size_t cells_length,
+                            const uint64_t *listed, size_t listed_length,
+                            uint64_t *result, size_t result_length);
 
 #ifdef __cplusplus
 }

@@ -44,6 +44,11 @@ extern "C" {
         padded: *mut u64, padded_length: usize, result: *mut u64, result_length: usize,
     ) -> u64;
     fn harbour_covers(first: *const u64, first_length: usize, second: *const u64, second_length: usize) -> u64;
+    #[allow(clippy::too_many_arguments)]
+    fn harbour_check_list(
+        catalogue: *const u64, catalogue_length: usize, cells: *const u64, cells_length: usize,
+        listed: *const u64, listed_length: usize, result: *mut u64, result_length: usize,
+    ) -> u64;
 }
 
 /// Is it the library that is called, or the peer under its names?
@@ -129,10 +134,22 @@ pub fn covers(first: &[u64], second: &[u64]) -> u64 {
     unsafe { harbour_covers(first.as_ptr(), first.len(), second.as_ptr(), second.len()) }
 }
 
+/// The library's check of a list of keys.
+/// See `lists::check_list`.
+#[cfg(feature = "stream")]
+pub fn check_list(catalogue: &[u64], cells: &[u64], listed: &[u64], result: &mut [u64]) -> u64 {
+    unsafe {
+        harbour_check_list(
+            catalogue.as_ptr(), catalogue.len(), cells.as_ptr(), cells.len(), listed.as_ptr(), listed.len(), result.as_mut_ptr(), result.len(),
+        )
+    }
+}
+
 /// The peer's own functions under the C names, for trying the programs out while there is no library.
 /// Comparing with them shows nothing about the library.
 #[cfg(feature = "mock")]
 mod mock {
+    use crate::lists;
     use crate::rule::{Asked, Store};
     use crate::words;
     use std::slice;
@@ -250,5 +267,18 @@ mod mock {
     #[no_mangle]
     unsafe extern "C" fn harbour_covers(first: *const u64, first_length: usize, second: *const u64, second_length: usize) -> u64 {
         words::covers(lent(first, first_length), lent(second, second_length))
+    }
+
+    /// The mock of the check of a list; it drains the stream to know the maximal sets.
+    /// See `lists::check_list`.
+    #[no_mangle]
+    #[allow(clippy::too_many_arguments)]
+    unsafe extern "C" fn harbour_check_list(
+        catalogue: *const u64, catalogue_length: usize, cells: *const u64, cells_length: usize,
+        listed: *const u64, listed_length: usize, result: *mut u64, result_length: usize,
+    ) -> u64 {
+        let (catalogue, cells) = (lent(catalogue, catalogue_length), lent(cells, cells_length));
+        let maximal = if catalogue.len() < words::CATALOGUE { Default::default() } else { lists::drained(&words::catalogue_of(catalogue), cells) };
+        lists::check_list(catalogue, cells, lent(listed, listed_length), &maximal, lent_mut(result, result_length))
     }
 }

@@ -165,6 +165,24 @@ impl<'a> Tables<'a> {
         self.piece(&turned, row.0)
     }
 
+    /// The key of the set that the first row alone extends to.
+    /// None without rows.
+    pub fn first(&self) -> Option<u64> {
+        let &first = self.order.first()?;
+        let mut set = [0; 8];
+        set[first.0] = first.1;
+        self.extend(&mut set);
+        Some(key_of(&set))
+    }
+
+    /// The key of the set that a trial of the row at a place in row order comes to.
+    /// The key on which it is tried names rows that are there.
+    pub fn reached(&self, key: u64, place: usize) -> u64 {
+        let mut set = self.turned(&set_of(key), self.order[place]);
+        self.extend(&mut set);
+        key_of(&set)
+    }
+
     /// Does a key name a set of rows that are there?
     /// It is not 0, names no missing row and no table from n on.
     pub fn names(&self, key: u64) -> bool {

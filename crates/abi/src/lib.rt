@@ -9,6 +9,7 @@ ghost use Rattle.abi.specs.Calls.{LoadCall, WriteCall};
 use image::Written;
 use tables::Catalogue;
 
+pub mod lists;
 pub mod streams;
 
 // The word of a catalogue at a place: m, n, the eight schemes, the eight row counts.

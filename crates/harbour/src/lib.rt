@@ -1,10 +1,12 @@
-// The public calls of the library: load and write an image, open a stream and move it on, and ask whether one padded row covers another.
+// The public calls of the library: load and write an image, open a stream and move it on, check a list of sets, and ask whether one padded row covers another.
 // None asks anything of its caller, and each promise stands here once: one outcome for every input, refusals too.
 ghost use Rattle.padding.specs.Covering.{Covers};
 ghost use Rattle.image.specs.Load.{Loads};
 ghost use Rattle.image.specs.Write.{Writes};
 ghost use Rattle.stream.specs.Promises.{Opens, Steps, OpensHolding, StepsHolding};
 ghost use Rattle.harbour.specs.Answers.{Nexts, NextsHolding};
+ghost use Rattle.hub.specs.Promises.{ChecksList};
+pub use hub::ListVerdict;
 pub use image::Loaded;
 pub use image::Verdict;
 pub use image::Written;
@@ -173,4 +175,12 @@ pub fn covers(first: &[u64], second: &[u64]) -> bool
     ensures { λ r. ⌜ Covers (now (first .entry)) (now (second .entry)) r ⌝ }
 {
     padding::covers(first, second)
+}
+
+// Checks a list of keys, as the regional hub sends it: whether it holds every maximal set once and nothing else, in any order.
+// A no names the first entry that is none or a repeat, or else the first set not listed that the trials over the listed sets reach.
+pub fn check_list(cat: Catalogue, cells: &[u64], listed: &[u64]) -> ListVerdict
+    ensures { λ r. ⌜ ChecksList cat (now (cells .entry)) (now (listed .entry)) r ⌝ }
+{
+    hub::check_list(cat, cells, listed)
 }

@@ -294,6 +294,50 @@ fn write(name: &str, tables: &Tables, repeats: usize) {
     println!("{name:<42} {:>6} bytes {:>9.6} s  {:>6.3} of a Rust writing", out.len(), library / rounds as f64, library / rust);
 }
 
+/// The keys of all sets of the tables, as the library hands them out.
+fn keys_of(tables: &Tables, room: &mut Room) -> Vec<u64> {
+    let drained = by_library(tables, room, Asked::EverySet, u64::MAX);
+    room.keys[..drained.sets as usize].to_vec()
+}
+
+/// The same keys in another order.
+fn shuffled(keys: &[u64]) -> Vec<u64> {
+    let (mut list, mut random) = (keys.to_vec(), Random::new(7));
+    for place in (1..list.len()).rev() {
+        list.swap(place, random.below(place as u64 + 1) as usize);
+    }
+    list
+}
+
+/// The check of a right list, which has to find it right.
+fn check_list(tables: &Tables, list: &[u64]) {
+    let answer = library::check_list(&words::words_of(&tables.catalogue), &tables.cells, black_box(list), &mut [0]);
+    assert!(answer == 32, "the check of a right list gives {answer}");
+}
+
+/// Checks the star's list in three orders beside the drain of the same tables, and lists of more and more sets at the same N.
+fn lists(repeats: usize) {
+    let mut room = room();
+    let star = make::star(&[8, 8, 8, 8]);
+    let handed = keys_of(&star, &mut room);
+    let mut sorted = handed.clone();
+    sorted.sort_unstable();
+    let orders = [("as handed out", handed.clone()), ("sorted", sorted), ("shuffled", shuffled(&handed))];
+    for (name, list) in &orders {
+        let [checked, drained] = best(repeats, |form| match form {
+            0 => check_list(&star, list),
+            _ => drop(black_box(by_library(&star, &mut room, Asked::EverySet, u64::MAX))),
+        });
+        println!("the star's list, {name:<26} {:>6} sets  {checked:>9.6} s  {:>6.3} of the drain", list.len(), checked / drained);
+    }
+    for counts in [[23, 4, 3, 2], [20, 6, 3, 3], [16, 8, 4, 4], [8, 8, 8, 8]] {
+        let star = make::star(&counts);
+        let list = shuffled(&keys_of(&star, &mut room));
+        let [checked] = best(repeats, |_| check_list(&star, &list));
+        println!("a star of rows {:<29} {:>6} sets  {checked:>9.6} s  {:>6.3} microseconds a set", format!("{counts:?}, N = 32"), list.len(), checked * 1e6 / list.len() as f64);
+    }
+}
+
 /// Does what its words say.
 fn main() {
     let words: Vec<String> = std::env::args().skip(1).collect();
@@ -311,7 +355,7 @@ fn main() {
     }
 }
 
-/// Times every case, first the drains, then those of one row, then the checks of the images of (a) to (e); then the largest images written.
+/// Times every case, first the drains, then those of one row, then the checks of the images of (a) to (e), the largest images written, and lists checked.
 fn all(repeats: usize) {
     println!("drains, the best of {repeats}:");
     for case in cases() {
@@ -329,4 +373,6 @@ fn all(repeats: usize) {
     println!("the largest images written, the best of {repeats}:");
     write("8,192 cells, codes below 128", &full(0), repeats);
     write("8,192 cells, codes near 2^63", &full((1 << 63) - 200), repeats);
+    println!("checks of lists, the best of {repeats}:");
+    lists(repeats);
 }
