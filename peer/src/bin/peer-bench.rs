@@ -1,13 +1,19 @@
 //! Times the library beside the same rule in Rust, as worded and with shortcuts, in one run: ratios, never seconds alone.
-//! Use: peer-bench [repeats], or peer-bench sql for the chain's tables and their nested full outer joins as SQL.
+//! Use: peer-bench [repeats]; peer-bench listings PROGRAM [repeats] for the listing program beside a plain listing in Rust, which is peer-bench list
+//! of the image on standard input; or peer-bench sql for the chain's tables and their nested full outer joins as SQL.
 #![forbid(unsafe_code)]
 use peer::image::{self, Catalogue};
 use peer::make::{self, Tables};
 use peer::random::Random;
-use peer::rule::{self, Answer, Outcome, Record, Store};
+use peer::listing::{self, Next, Open};
+use peer::rule::{self, Answer, Outcome, Store};
 use peer::words::{self, Call, RECORD, RESULT};
 use peer::{library, swift};
+use std::fs::{self, File};
 use std::hint::black_box;
+use std::io::{self, Read, Write};
+use std::path::Path;
+use std::process::{Command, Stdio};
 use std::time::Instant;
 
 /// The records that a drain is lent.
@@ -71,9 +77,6 @@ fn by_library(tables: &Tables, room: &mut Room) -> Drained {
         }
     }
 }
-
-type Open = fn(&Catalogue, &[u64], &mut Store) -> Result<(Record, u64), peer::refusal::Refusal>;
-type Next = fn(&Catalogue, &[u64], &mut Store, &mut Record, u64, &mut [u64]) -> (Outcome, rule::Counts);
 
 /// Drains the tables by one of the two forms in Rust.
 fn by_rust(tables: &Tables, room: &mut Room, open: Open, next: Next) -> Drained {
@@ -197,13 +200,63 @@ fn check(name: &str, tables: &Tables, repeats: usize) {
     println!("{name:<42} {:>6} bytes {:>9.6} s  {:>6.3} of a Rust reading", image.len(), library / rounds as f64, library / rust);
 }
 
-/// Times every case, first the drains, then the checks of their images.
+/// Lists one image by the listing program and by this one, each a process of its own that is read through a pipe, and prints the ratio.
+/// Both have to print the same before they are timed.
+fn list(name: &str, tables: &Tables, repeats: usize, program: &Path) {
+    let file = std::env::temp_dir().join(format!("harbour-bench-{}", std::process::id()));
+    fs::write(&file, make::good(tables)).expect("the image is not written");
+    let own = std::env::current_exe().expect("this program has no path");
+    let run = |form: usize| {
+        let mut command = if form == 0 { Command::new(program) } else { Command::new(&own) };
+        let image = File::open(&file).expect("the image is not there");
+        if form == 1 {
+            command.arg("list");
+        }
+        command.stdin(Stdio::from(image)).output().expect("a listing does not run").stdout
+    };
+    let text = run(0);
+    assert!(text == run(1), "{name}: the listings differ");
+    let [ours, rust] = best(repeats, |form| {
+        black_box(run(form));
+    });
+    fs::remove_file(&file).expect("the image stays");
+    println!("{name:<42} {:>6} bytes {:>9.6} s  {:>6.3} of a Rust listing", text.len(), ours, ours / rust);
+}
+
+/// The plain listing of the image on standard input, by the rule with shortcuts.
+fn listed() {
+    let mut input = Vec::new();
+    io::stdin().take(listing::INPUT as u64 + 1).read_to_end(&mut input).expect("standard input is not read");
+    let text = listing::list_by(&input, swift::open, swift::next);
+    io::stdout().write_all(text.as_bytes()).expect("standard output is not written");
+}
+
+/// Times the listings of every case.
+fn listings(program: &Path, repeats: usize) {
+    println!("listings, the best of {repeats}:");
+    for (name, tables) in cases() {
+        list(name, &tables, repeats, program);
+    }
+}
+
+/// How often something is timed, where it is said.
+fn times(word: Option<String>) -> usize {
+    word.map_or(5, |word| word.parse().expect("use: peer-bench [repeats] | listings PROGRAM [repeats] | list | sql"))
+}
+
+/// Times every case, first the drains, then the checks of their images; or their listings.
 fn main() {
     let word = std::env::args().nth(1);
-    if word.as_deref() == Some("sql") {
-        return print!("{}", sql(&chain()));
+    match word.as_deref() {
+        Some("sql") => return print!("{}", sql(&chain())),
+        Some("list") => return listed(),
+        Some("listings") => {
+            let program = std::env::args().nth(2).expect("which program?");
+            return listings(Path::new(&program), times(std::env::args().nth(3)));
+        }
+        _ => {}
     }
-    let repeats = word.map_or(5, |word| word.parse().expect("use: peer-bench [repeats] | sql"));
+    let repeats = times(word);
     assert!(!library::MOCK, "without the library there is nothing to time");
     println!("drains, the best of {repeats}:");
     for (name, tables) in cases() {
