@@ -167,7 +167,7 @@ impl<'a> Tables<'a> {
 
     /// The key of the set that the first row alone extends to.
     /// None without rows.
-    pub fn first(&self) -> Option<u64> {
+    pub fn first_extended(&self) -> Option<u64> {
         let &first = self.order.first()?;
         let mut set = [0; 8];
         set[first.0] = first.1;

@@ -220,8 +220,8 @@ pub fn check_list(cat: Catalogue, cells: &[u64], listed: &[u64]) -> ListVerdict
     harbour::check_list(cat, cells, listed)
 }
 
-// Calls `harbour_check_list`.
-pub fn harbour_check_list(catalogue: &[u64], cells: &[u64], listed: &[u64], result: &mut [u64]) -> u64
+// Calls `abi::lists::harbour_check_list`.
+pub fn check_list_words(catalogue: &[u64], cells: &[u64], listed: &[u64], result: &mut [u64]) -> u64
     ensures { λ r. ⌜ ListCall (now (catalogue .entry)) (now (cells .entry)) (now (listed .entry)) (now (result .entry)) r (now (result .exit)) ⌝ }
 {
     abi::lists::harbour_check_list(catalogue, cells, listed, result)

@@ -1,14 +1,20 @@
 //! Times the library beside the same rule in Rust, as worded and with shortcuts, in one run: ratios, never seconds alone.
 //! Use: peer-bench [repeats]; peer-bench once LETTER FORM for one drain of a case by one form (0 the library, 1 as worded, 2 with shortcuts), whose
-//! instructions callgrind counts; or peer-bench sql for the chain's tables and their nested full outer joins as SQL.
+//! instructions callgrind counts; peer-bench listings PROGRAM [repeats] for the listing program beside a plain listing in Rust, which is peer-bench list
+//! of the image on standard input; or peer-bench sql for the chain's tables and their nested full outer joins as SQL.
 #![forbid(unsafe_code)]
 use peer::image::{self, Catalogue};
 use peer::make::{self, Tables};
 use peer::random::Random;
-use peer::rule::{self, Answer, Asked, Outcome, Record, Store};
+use peer::listing::{self, Next, Open};
+use peer::rule::{self, Answer, Asked, Outcome, Store};
 use peer::words::{self, Call, HOLDING, RESULT};
 use peer::{library, swift};
+use std::fs::{self, File};
 use std::hint::black_box;
+use std::io::{self, Read, Write};
+use std::path::Path;
+use std::process::{Command, Stdio};
 use std::time::Instant;
 
 /// The records that a drain is lent.
@@ -78,9 +84,6 @@ fn by_library(tables: &Tables, room: &mut Room, asked: Asked, budget: u64) -> Dr
         }
     }
 }
-
-type Open = fn(&Catalogue, &[u64], &mut Store) -> Result<(Record, u64), peer::refusal::Refusal>;
-type Next = fn(&Catalogue, &[u64], &mut Store, &mut Record, u64, &mut [u64]) -> (Outcome, rule::Counts);
 
 /// Drains the tables by one of the two forms in Rust, each call with this budget.
 fn by_rust(tables: &Tables, room: &mut Room, budget: u64, open: Open, next: Next) -> Drained {
@@ -338,13 +341,54 @@ fn lists(repeats: usize) {
     }
 }
 
+/// Lists one image by the listing program and by this one, each a process of its own that is read through a pipe, and prints the ratio.
+/// Both have to print the same before they are timed.
+fn list(name: &str, tables: &Tables, repeats: usize, program: &Path) {
+    let file = std::env::temp_dir().join(format!("harbour-bench-{}", std::process::id()));
+    fs::write(&file, make::good(tables)).expect("the image is not written");
+    let own = std::env::current_exe().expect("this program has no path");
+    let run = |form: usize| {
+        let mut command = if form == 0 { Command::new(program) } else { Command::new(&own) };
+        let image = File::open(&file).expect("the image is not there");
+        if form == 1 {
+            command.arg("list");
+        }
+        command.stdin(Stdio::from(image)).output().expect("a listing does not run").stdout
+    };
+    let text = run(0);
+    assert!(text == run(1), "{name}: the listings differ");
+    let [ours, rust] = best(repeats, |form| {
+        black_box(run(form));
+    });
+    fs::remove_file(&file).expect("the image stays");
+    println!("{name:<42} {:>6} bytes {:>9.6} s  {:>6.3} of a Rust listing", text.len(), ours, ours / rust);
+}
+
+/// The plain listing of the image on standard input, by the rule with shortcuts.
+fn listed() {
+    let mut input = Vec::new();
+    io::stdin().take(listing::INPUT as u64 + 1).read_to_end(&mut input).expect("standard input is not read");
+    let text = listing::list_by(&input, swift::open, swift::next);
+    io::stdout().write_all(text.as_bytes()).expect("standard output is not written");
+}
+
+/// Times the listings of (a) to (e).
+fn listings(program: &Path, repeats: usize) {
+    println!("listings, the best of {repeats}:");
+    for case in cases().iter().filter(|case| "abcde".contains(case.letter)) {
+        list(case.name, &case.tables, repeats, program);
+    }
+}
+
 /// Does what its words say.
 fn main() {
     let words: Vec<String> = std::env::args().skip(1).collect();
-    let use_ = "use: peer-bench [repeats] | once LETTER FORM | sql";
-    assert!(!library::MOCK, "without the library there is nothing to time");
+    let use_ = "use: peer-bench [repeats] | once LETTER FORM | listings PROGRAM [repeats] | list | sql";
     match words.iter().map(String::as_str).collect::<Vec<_>>()[..] {
         ["sql"] => print!("{}", sql(&chain())),
+        ["list"] => listed(),
+        ["listings", program] => listings(Path::new(program), 5),
+        ["listings", program, repeats] => listings(Path::new(program), repeats.parse().expect(use_)),
         ["once", letter, form] => {
             let case = cases().into_iter().find(|case| case.letter == letter).expect(use_);
             println!("{:?}", drained(&case, &mut room(), form.parse().expect(use_)));
@@ -357,6 +401,7 @@ fn main() {
 
 /// Times every case, first the drains, then those of one row, then the checks of the images of (a) to (e), the largest images written, and lists checked.
 fn all(repeats: usize) {
+    assert!(!library::MOCK, "without the library there is nothing to time");
     println!("drains, the best of {repeats}:");
     for case in cases() {
         drain(&case, repeats);
