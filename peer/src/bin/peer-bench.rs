@@ -1,5 +1,5 @@
 //! Times the library beside the same rule in Rust, as worded and with shortcuts, in one run: ratios, never seconds alone.
-//! Use: peer-bench [repeats]; peer-bench once LETTER FORM for one drain of a case by one form (0 the library, 1 as worded, 2 with shortcuts), whose
+//! Use: peer-bench [repeats]; peer-bench rows for the streams of one row alone; peer-bench once LETTER FORM for one drain of a case by one form (0 the library, 1 as worded, 2 with shortcuts), whose
 //! instructions callgrind counts; or peer-bench sql for the chain's tables and their nested full outer joins as SQL.
 #![forbid(unsafe_code)]
 use peer::image::{self, Catalogue};
@@ -297,7 +297,7 @@ fn write(name: &str, tables: &Tables, repeats: usize) {
 /// Does what its words say.
 fn main() {
     let words: Vec<String> = std::env::args().skip(1).collect();
-    let use_ = "use: peer-bench [repeats] | once LETTER FORM | sql";
+    let use_ = "use: peer-bench [repeats] | rows | once LETTER FORM | sql";
     assert!(!library::MOCK, "without the library there is nothing to time");
     match words.iter().map(String::as_str).collect::<Vec<_>>()[..] {
         ["sql"] => print!("{}", sql(&chain())),
@@ -305,9 +305,19 @@ fn main() {
             let case = cases().into_iter().find(|case| case.letter == letter).expect(use_);
             println!("{:?}", drained(&case, &mut room(), form.parse().expect(use_)));
         }
+        ["rows"] => rows(5),
         [] => all(5),
         [repeats] => all(repeats.parse().expect(use_)),
         _ => panic!("{use_}"),
+    }
+}
+
+/// Times the drains of the sets that hold one row.
+fn rows(repeats: usize) {
+    println!("drains of the sets that hold one row, beside those of every set, the best of {repeats}:");
+    for (letter, table, row) in ROWS {
+        let case = cases().into_iter().find(|case| case.letter == letter).expect("no such case");
+        row_drain(&case, table, row, repeats);
     }
 }
 
@@ -317,11 +327,7 @@ fn all(repeats: usize) {
     for case in cases() {
         drain(&case, repeats);
     }
-    println!("drains of the sets that hold one row, beside those of every set, the best of {repeats}:");
-    for (letter, table, row) in ROWS {
-        let case = cases().into_iter().find(|case| case.letter == letter).expect("no such case");
-        row_drain(&case, table, row, repeats);
-    }
+    rows(repeats);
     println!("checks of the same images, the best of {repeats}:");
     for case in cases().iter().filter(|case| "abcde".contains(case.letter)) {
         check(case.name, &case.tables, repeats);
