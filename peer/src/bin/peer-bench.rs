@@ -1,6 +1,7 @@
 //! Times the library beside the same rule in Rust, as worded and with shortcuts, in one run: ratios, never seconds alone.
-//! Use: peer-bench [repeats]; peer-bench rows for the streams of one row alone; peer-bench once LETTER FORM for one drain of a case by one form (0 the library, 1 as worded, 2 with shortcuts), whose
-//! instructions callgrind counts; or peer-bench sql for the chain's tables and their nested full outer joins as SQL.
+//! Use: peer-bench [repeats]; peer-bench rows for the streams of one row alone; peer-bench once LETTER FORM for one drain of a case by one form (0 the
+//! library, 1 as worded, 2 with shortcuts), whose instructions callgrind counts; or peer-bench sql for the chain's tables and their nested full outer
+//! joins as SQL.
 #![forbid(unsafe_code)]
 use peer::image::{self, Catalogue};
 use peer::make::{self, Tables};
