@@ -1,7 +1,8 @@
 //! Times the library beside the same rule in Rust, as worded and with shortcuts, in one run: ratios, never seconds alone.
-//! Use: peer-bench [repeats]; peer-bench once LETTER FORM for one drain of a case by one form (0 the library, 1 as worded, 2 with shortcuts), whose
-//! instructions callgrind counts; peer-bench listings PROGRAM [repeats] for the listing program beside a plain listing in Rust, which is peer-bench list
-//! of the image on standard input; or peer-bench sql for the chain's tables and their nested full outer joins as SQL.
+//! Use: peer-bench [repeats]; peer-bench rows for the streams of one row alone; peer-bench once LETTER FORM for one drain of a case by one form (0 the
+//! library, 1 as worded, 2 with shortcuts), whose instructions callgrind counts; peer-bench listings PROGRAM [repeats] for the listing program beside a
+//! plain listing in Rust, which is peer-bench list of the image on standard input; or peer-bench sql for the chain's tables and their nested full outer
+//! joins as SQL.
 #![forbid(unsafe_code)]
 use peer::image::{self, Catalogue};
 use peer::make::{self, Tables};
@@ -383,7 +384,7 @@ fn listings(program: &Path, repeats: usize) {
 /// Does what its words say.
 fn main() {
     let words: Vec<String> = std::env::args().skip(1).collect();
-    let use_ = "use: peer-bench [repeats] | once LETTER FORM | listings PROGRAM [repeats] | list | sql";
+    let use_ = "use: peer-bench [repeats] | rows | once LETTER FORM | listings PROGRAM [repeats] | list | sql";
     match words.iter().map(String::as_str).collect::<Vec<_>>()[..] {
         ["sql"] => print!("{}", sql(&chain())),
         ["list"] => listed(),
@@ -393,9 +394,19 @@ fn main() {
             let case = cases().into_iter().find(|case| case.letter == letter).expect(use_);
             println!("{:?}", drained(&case, &mut room(), form.parse().expect(use_)));
         }
+        ["rows"] => rows(5),
         [] => all(5),
         [repeats] => all(repeats.parse().expect(use_)),
         _ => panic!("{use_}"),
+    }
+}
+
+/// Times the drains of the sets that hold one row.
+fn rows(repeats: usize) {
+    println!("drains of the sets that hold one row, beside those of every set, the best of {repeats}:");
+    for (letter, table, row) in ROWS {
+        let case = cases().into_iter().find(|case| case.letter == letter).expect("no such case");
+        row_drain(&case, table, row, repeats);
     }
 }
 
@@ -406,11 +417,7 @@ fn all(repeats: usize) {
     for case in cases() {
         drain(&case, repeats);
     }
-    println!("drains of the sets that hold one row, beside those of every set, the best of {repeats}:");
-    for (letter, table, row) in ROWS {
-        let case = cases().into_iter().find(|case| case.letter == letter).expect("no such case");
-        row_drain(&case, table, row, repeats);
-    }
+    rows(repeats);
     println!("checks of the same images, the best of {repeats}:");
     for case in cases().iter().filter(|case| "abcde".contains(case.letter)) {
         check(case.name, &case.tables, repeats);
