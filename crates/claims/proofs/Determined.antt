@@ -16,10 +16,10 @@ use Rattle.stream.specs.declared.RowStepAnswer.{RowStepAnswer}
 use Rattle.stream.specs.Promises.{stateWith, saysOf, calledWith, calledOf, calledRow, openedWith, openedRow}
 use Rattle.harbour.specs.declared.NextAnswer.{NextAnswer}
 use Rattle.harbour.specs.Answers.{withRecord}
-use Rattle.image.specs.declared.Loaded.{Loaded}
-use Rattle.image.specs.declared.Written.{Written}
-use Rattle.image.specs.Load.{firstTable, tablesCodes, cellsAfter, Loads}
-use Rattle.image.specs.Write.{imageOf, bytesAfter, Writes}
+use Rattle.loader.specs.declared.Loaded.{Loaded}
+use Rattle.writer.specs.declared.Written.{Written}
+use Rattle.loader.specs.Load.{firstTable, tablesCodes, cellsAfter, Loads}
+use Rattle.writer.specs.Write.{imageOf, bytesAfter, Writes}
 use Rattle.tables.specs.declared.Catalogue.{Catalogue}
 use Rattle.claims.specs.Outcomes.{OneOutcome}
 

@@ -8,7 +8,7 @@ use lib.ListN.{replicate}
 use Rattle.tables.specs.declared.Catalogue.{Catalogue}
 use Rattle.tables.specs.Sizes.{mostCells}
 use Rattle.rows.specs.World.{fitsIn}
-use Rattle.image.specs.Load.{firstTable, scanOf, tablesCodes}
+use Rattle.loader.specs.Load.{firstTable, scanOf, tablesCodes}
 use Rattle.image.specs.Edges.{NumberEdges, ImageEdges}
 use Rattle.machine.specs.Machine.{Says, aSet, finished, Called, call, opening}
 use Rattle.machine.specs.Runs.{Given, runOf, handed}

@@ -8,12 +8,12 @@ use Rattle.laws.specs.Lists.{put}
 use Rattle.tables.specs.declared.Catalogue.{Catalogue}
 use Rattle.tables.specs.Sizes.{mostTables}
 use Rattle.tables.specs.Catalogues.{firstCell, total}
-use Rattle.image.specs.declared.Verdict.the-variants.{Good}
-use Rattle.image.specs.declared.Loaded.{Loaded}
-use Rattle.image.specs.declared.Written.{Written}
-use Rattle.image.specs.declared.Written.the-variants.{Length}
-use Rattle.image.specs.Load.{Loads}
-use Rattle.image.specs.Write.{Writes}
+use Rattle.loader.specs.declared.Verdict.the-variants.{Good}
+use Rattle.loader.specs.declared.Loaded.{Loaded}
+use Rattle.writer.specs.declared.Written.{Written}
+use Rattle.writer.specs.declared.Written.the-variants.{Length}
+use Rattle.loader.specs.Load.{Loads}
+use Rattle.writer.specs.Write.{Writes}
 use Rattle.image.specs.RoundTrip.{found, trimmed}
 use Rattle.store.specs.Store.{storeIn, roomIn}
 use Rattle.disjunction.specs.Asked.{everySet}

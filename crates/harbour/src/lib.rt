@@ -2,19 +2,20 @@
 // None asks anything of its caller, and each promise stands here once: one outcome for every input, refusals too.
 ghost use mathlib.Core.Path.{_≡_};
 ghost use Rattle.padding.specs.Covering.{covering};
-ghost use Rattle.image.specs.Load.{Loads};
-ghost use Rattle.image.specs.Write.{Writes};
+ghost use Rattle.loader.specs.Load.{Loads};
+ghost use Rattle.writer.specs.Write.{Writes};
 ghost use Rattle.machine.specs.Machine.{call, opening};
 ghost use Rattle.stream.specs.Promises.{stateOf, calledOf, openedOf};
 ghost use Rattle.harbour.specs.Answers.{withRecord};
-pub use image::Loaded;
-pub use image::Verdict;
-pub use image::Written;
+pub use loader::Fault;
+pub use loader::Loaded;
+pub use loader::Verdict;
 pub use stream::Answer;
 pub use stream::OpenAnswer;
 pub use stream::StepAnswer;
 pub use stream::StreamRecord;
 pub use tables::Catalogue;
+pub use writer::Written;
 
 // What the thin call answers: the answer, the key of a set (else 0), its trials, row tests and looks.
 // The record is not in it: the call has moved it on where it lies.
@@ -31,7 +32,7 @@ pub struct NextAnswer {
 pub fn load(image: &[u8], cells: &mut [u64]) -> Loaded
     ensures { λ r. ⌜ Loads (now (image .entry)) (now (cells .entry)) r (now (cells .exit)) ⌝ }
 {
-    image::load(image, cells)
+    loader::load(image, cells)
 }
 
 // Writes the image of the tables into the front of the lent bytes, and gives its length.
@@ -39,7 +40,7 @@ pub fn load(image: &[u8], cells: &mut [u64]) -> Loaded
 pub fn write(cat: Catalogue, cells: &[u64], out: &mut [u8]) -> Written
     ensures { λ r. ⌜ Writes cat (now (cells .entry)) (now (out .entry)) r (now (out .exit)) ⌝ }
 {
-    image::write(cat, cells, out)
+    writer::write(cat, cells, out)
 }
 
 // Opens a stream on the tables, in the store that the three slices make.

@@ -226,7 +226,7 @@ fn list_image(image: &[u8]) {
     let verdict = loaded.verdict;
     match verdict {
         Verdict::Good => list(loaded.catalogue, &cells),
-        Verdict::Refused(number, place) => refused_line(number, place),
+        Verdict::Refused(fault) => refused_line(fault.refusal, fault.place),
     }
 }
 
