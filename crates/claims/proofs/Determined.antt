@@ -18,10 +18,10 @@ use Rattle.stream.specs.declared.HoldingRecord.{HoldingRecord}
 use Rattle.stream.specs.Promises.{heldBy, stateWith, saysOf, calledWith, calledOf, calledHolding, openedWith, openedHolding}
 use Rattle.harbour.specs.declared.NextAnswer.{NextAnswer}
 use Rattle.harbour.specs.Answers.{withRecord, withHolding}
-use Rattle.image.specs.declared.Loaded.{Loaded}
-use Rattle.image.specs.declared.Written.{Written}
-use Rattle.image.specs.Load.{firstTable, tablesCodes, cellsAfter, Loads}
-use Rattle.image.specs.Write.{imageOf, bytesAfter, Writes}
+use Rattle.loader.specs.declared.Loaded.{Loaded}
+use Rattle.writer.specs.declared.Written.{Written}
+use Rattle.loader.specs.Load.{firstTable, tablesCodes, cellsAfter, Loads}
+use Rattle.writer.specs.Write.{imageOf, bytesAfter, Writes}
 use Rattle.tables.specs.declared.Catalogue.{Catalogue}
 use Rattle.abi.specs.Streams.{Opening, Calling}
 use Rattle.claims.specs.Outcomes.{OneOutcome}

@@ -5,10 +5,10 @@ use mathlib.Core.Path.{_≡_}
 use mathlib.Core.Bool.{Bool}
 use mathlib.Core.List.{List}
 use Rattle.tables.specs.declared.Catalogue.{Catalogue}
-use Rattle.image.specs.declared.Loaded.{Loaded}
-use Rattle.image.specs.declared.Written.{Written}
-use Rattle.image.specs.Load.{Loads}
-use Rattle.image.specs.Write.{Writes}
+use Rattle.loader.specs.declared.Loaded.{Loaded}
+use Rattle.writer.specs.declared.Written.{Written}
+use Rattle.loader.specs.Load.{Loads}
+use Rattle.writer.specs.Write.{Writes}
 use Rattle.door.specs.Door.{Checks}
 use Rattle.padding.specs.Covering.{Covers}
 use Rattle.stream.specs.declared.StreamRecord.{StreamRecord}

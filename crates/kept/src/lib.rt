@@ -1,7 +1,7 @@
 // Callers of the public calls, one for each, that promise what they were promised and do nothing else.
 // They are here for the check: a public contract that loses its promise, or says less, is not enough for its caller here.
-ghost use Rattle.image.specs.Load.{Loads};
-ghost use Rattle.image.specs.Write.{Writes};
+ghost use Rattle.loader.specs.Load.{Loads};
+ghost use Rattle.writer.specs.Write.{Writes};
 ghost use Rattle.padding.specs.Covering.{Covers};
 ghost use Rattle.stream.specs.Promises.{Opens, Steps, OpensHolding, StepsHolding};
 ghost use Rattle.door.specs.Door.{Checks};

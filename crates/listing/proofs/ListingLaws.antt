@@ -14,10 +14,11 @@ use Rattle.tables.specs.declared.Catalogue.{Catalogue}
 use Rattle.tables.specs.Sizes.{mostAttributes, mostCells}
 use Rattle.tables.specs.Catalogues.{total}
 use Rattle.tables.specs.Checks.{Lawful}
-use Rattle.image.specs.declared.Verdict.{Verdict}
-use Rattle.image.specs.declared.Verdict.the-variants.{Good, Refused}
-use Rattle.image.specs.declared.Loaded.{Loaded}
-use Rattle.image.specs.Load.{firstTable, scanOf, tablesCodes, cellsAfter, Loads}
+use Rattle.loader.specs.declared.Fault.{Fault}
+use Rattle.loader.specs.declared.Verdict.{Verdict}
+use Rattle.loader.specs.declared.Verdict.the-variants.{Good, Refused}
+use Rattle.loader.specs.declared.Loaded.{Loaded}
+use Rattle.loader.specs.Load.{firstTable, scanOf, tablesCodes, cellsAfter, Loads}
 use Rattle.machine.specs.Machine.{State, Says, aSet, finished, working, refused, Called, call, Opened, opening}
 use Rattle.machine.proofs.CountLaws.{Small, call-small}
 use Rattle.stream.specs.declared.StepAnswer.{StepAnswer}
@@ -252,8 +253,8 @@ module _ {s lent after : List ℕ} (r : Loaded) (z : lent ≡ blank mostCells) (
   pub image-good : r .verdict ≡ Good → imageText s ≡ tablesText (r .catalogue) after
   image-good e = text ∙ ap (λ (v : Verdict). verdictText v (r .catalogue) after) e
 
-  pub image-refused : (k p : ℕ) → r .verdict ≡ Refused k p → imageText s ≡ refusedLine (k ∷ p ∷ [])
-  image-refused k p e = text ∙ ap (λ (v : Verdict). verdictText v (r .catalogue) after) e
+  pub image-refused : (f : Fault) → r .verdict ≡ Refused f → imageText s ≡ refusedLine (f .refusal ∷ f .place ∷ [])
+  image-refused f e = text ∙ ap (λ (v : Verdict). verdictText v (r .catalogue) after) e
 
 -- ---- reading
 

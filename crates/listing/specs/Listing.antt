@@ -11,9 +11,9 @@ use Rattle.tables.specs.declared.Catalogue.{Catalogue}
 use Rattle.tables.specs.Sizes.{mostAttributes, mostTables, mostCells}
 use Rattle.tables.specs.Catalogues.{total}
 use Rattle.tables.specs.Checks.{Lawful}
-use Rattle.image.specs.declared.Verdict.{Verdict}
-use Rattle.image.specs.declared.Verdict.the-variants.{Good, Refused}
-use Rattle.image.specs.Load.{firstTable, scanOf, tablesCodes, cellsAfter}
+use Rattle.loader.specs.declared.Verdict.{Verdict}
+use Rattle.loader.specs.declared.Verdict.the-variants.{Good, Refused}
+use Rattle.loader.specs.Load.{firstTable, scanOf, tablesCodes, cellsAfter}
 use Rattle.machine.specs.Machine.{State, Says, aSet, finished, working, refused, call, opening}
 use Rattle.stream.specs.Promises.{stateOf}
 use Rattle.lines.specs.Lines.{tablesLine, setLine, endLine, refusedLine, tooLong, setRoom}
@@ -79,7 +79,7 @@ module _ (cat : Catalogue) (cells : List ℕ) where
 -- "A refused load prints only `refused`, number, place."
 abbrev pub verdictText : Verdict → Catalogue → List ℕ → List ℕ
 verdictText Good cat cells = tablesText cat cells
-verdictText (Refused k p) cat cells = refusedLine (k ∷ p ∷ [])
+verdictText (Refused f) cat cells = refusedLine (f .refusal ∷ f .place ∷ [])
 
 -- "It lends 8,192 cells": the text of an image.
 unfoldable pub imageText : List ℕ → List ℕ

@@ -240,6 +240,6 @@ pub fn first_lines(
     let verdict = loaded.verdict;
     match verdict {
         Verdict::Good => open_list(loaded.catalogue, cells, keys, left, right, out),
-        Verdict::Refused(number, place) => ended(put_refused(number, place, out, 0)),
+        Verdict::Refused(fault) => ended(put_refused(fault.refusal, fault.place, out, 0)),
     }
 }
