@@ -22,7 +22,7 @@ unfolding any
 any-ext zero f g h = refl
 any-ext (suc k) f g h = ap₂ (λ (x y : Bool). x || y) (h k (omega arith)) (any-ext k f g (λ t l. h t (omega arith)))
 
-pub all-ext : (k : ℕ) (f g : ℕ → Bool) → ((t : ℕ) → t < k → f t ≡ g t) → all k f ≡ all k g
+all-ext : (k : ℕ) (f g : ℕ → Bool) → ((t : ℕ) → t < k → f t ≡ g t) → all k f ≡ all k g
 unfolding all
 all-ext zero f g h = refl
 all-ext (suc k) f g h = ap₂ (λ (x y : Bool). x && y) (h k (omega arith)) (all-ext k f g (λ t l. h t (omega arith)))
@@ -60,7 +60,7 @@ module _ (n : ℕ) (count count′ : ℕ → ℕ) (touches touches′ : ℕ → 
     rows-below zero h = refl
     rows-below (suc k) h = ap₂ (λ (x y : List Place). x ++ y) (rows-below k (omega arith)) (ap (rowsTo k) (hc k (omega arith)))
 
-    pub rows-alike : rows W′ ≡ rows W
+    rows-alike : rows W′ ≡ rows W
     rows-alike = rows-below n (omega arith)
 
     pub rowAt-alike : (j : ℕ) → rowAt W′ j ≡ rowAt W j
@@ -84,7 +84,7 @@ module _ (n : ℕ) (count count′ : ℕ → ℕ) (touches touches′ : ℕ → 
         ap (λ (l : List Place). grow (rowTest W′) l n T) rows-alike
         ∙ grow-ext (rowTest W′) (rowTest W) (rows W) (λ U p m. test-alike U p (in-rows W p m .table)) n T
 
-    pub alone-alike : (s : Place) → alone W′ s ≡ alone W s
+    alone-alike : (s : Place) → alone W′ s ≡ alone W s
     unfolding alone
     alone-alike s = refl
 
@@ -129,7 +129,8 @@ module _ (n : ℕ) (count count′ : ℕ → ℕ) (touches touches′ : ℕ → 
     pub trial-alike : (T : List ℕ) (s : Place) → s .table < n → trial W′ T s ≡ trial W T s
     unfolding trial start
     trial-alike T s h =
-        extension-alike (piece W′ (dropped W′ T s) s) ∙ ap (extension W) (piece-alike (dropped W′ T s) s ∙ ap (λ (D : List ℕ). piece W D s) (dropped-alike T s h))
+        extension-alike (piece W′ (dropped W′ T s) s) ∙ ap (extension W) (piece-alike (dropped W′ T s) s
+        ∙ ap (λ (D : List ℕ). piece W D s) (dropped-alike T s h))
 
     -- The row at any place is one of a table that is there, if there is a table: past the last row it is taken for one of the first.
     pub rowAt-table : (j : ℕ) → 0 < n → rowAt W j .table < n

@@ -138,7 +138,7 @@ module _ (cat : Catalogue) (cells : List ℕ) where
     stands-still : (b : ℕ) (q : State) (a : Says) → Stands cat cells b q row (answer a q row)
     stands-still b q a = record { trials = none; budget = omega arith; key = refl; row = refl }
 
-    pub work-stands : (b : ℕ) (q : State) → (work cat cells b q row .says ≡ aSet → ⊥) → Stands cat cells b q row (work cat cells b q row)
+    work-stands : (b : ℕ) (q : State) → (work cat cells b q row .says ≡ aSet → ⊥) → Stands cat cells b q row (work cat cells b q row)
     work-stands =
         by-ways cat cells row (λ b q s. (s .says ≡ aSet → ⊥) → Stands cat cells b q row s)
         (record {
@@ -240,7 +240,8 @@ module _ (cat : Catalogue) (cells : List ℕ) (b : ℕ) (q : State) (row : List 
 
   others : (k : ℕ) → Told (refused k) → ((k ≡ 4) ⊎ (k ≡ 5) ⊎ (k ≡ 6) ⊎ (k ≡ 8)) ⊎ (k ≡ 13) ⊎ (k ≡ 11) ⊎ (k ≡ 12) ⊎ (k ≡ 14)
   others k x =
-      ⊎-elim (λ e. inr (inl e)) (λ y. ⊎-elim (λ e. inr (inr (inl e))) (λ z. ⊎-elim (λ e. inr (inr (inr (inl e)))) (λ u. ⊎-elim (λ e. inr (inr (inr (inr e)))) (λ v. inl v) (case-of 14 k _ _ u)) (case-of 12 k _ _ z)) (case-of 11 k _ _ y)) (case-of 13 k _ _ x)
+      ⊎-elim (λ e. inr (inl e)) (λ y. ⊎-elim (λ e. inr (inr (inl e))) (λ z. ⊎-elim (λ e. inr (inr (inr (inl e))))
+      (λ u. ⊎-elim (λ e. inr (inr (inr (inr e)))) (λ v. inl v) (case-of 14 k _ _ u)) (case-of 12 k _ _ z)) (case-of 11 k _ _ y)) (case-of 13 k _ _ x)
 
   pub call-exact : CallExact cat cells (call cat cells) b q row
   call-exact =
@@ -254,7 +255,11 @@ module _ (cat : Catalogue) (cells : List ℕ) (b : ℕ) (q : State) (row : List 
           λ (y, (a, p, w, d, f)). work-says y ∙ stops-says cat cells row b q full 12 (a, p, w, d, trial-full-iff cat cells p .1 f) (λ a p. refl),
         );
         refusal-14 = (
-          λ e. let (y, x) = because (refused 14) e in (y, ⊎-elim (λ (a, p, w, d, f). inl (a, p, w, d, trial-damaged-iff cat cells p .0 f)) (λ (a, p, w, d, f). inr (a, p, w, d, iff-no (named cat (keyDue p)) (named-iff cat (keyDue p)) .0 f)) x),
+          λ e. let (y, x) = because (refused 14) e in (
+            y,
+            ⊎-elim (λ (a, p, w, d, f). inl (a, p, w, d, trial-damaged-iff cat cells p .0 f))
+                (λ (a, p, w, d, f). inr (a, p, w, d, iff-no (named cat (keyDue p)) (named-iff cat (keyDue p)) .0 f)) x,
+          ),
           λ (y, x).
               work-says y
               ∙ ⊎-elim (λ (a, p, w, d, f). stops-says cat cells row b q damaged 14 (a, p, w, d, trial-damaged-iff cat cells p .1 f) (λ a p. refl))
@@ -277,7 +282,8 @@ module _ (cat : Catalogue) (cells : List ℕ) (b : ℕ) (q : State) (row : List 
           let w = call-works cat cells b q row e in
           subst (Stands cat cells b q row) (sym w) (work-stands cat cells row b q (λ z. n (ap (λ (s : Called). s .says) w ∙ z)))
       by (suc k) e =
-          subst (Stands cat cells b q row) (sym (call-refused cat cells b q row (suc k) e (λ z. absurd (omega arith)))) (stands-still cat cells row b q (refused (suc k)))
+          subst (Stands cat cells b q row) (sym (call-refused cat cells b q row (suc k) e (λ z. absurd (omega arith))))
+          (stands-still cat cells row b q (refused (suc k)))
 
 -- ---- open
 
@@ -320,6 +326,7 @@ open-exact cat cells a keys left right =
     refusals : Others (openingFor cat cells a keys left right .refusal)
     refusals =
         elim (ℕ-discrete (catalogueFault cat (length cells)) 0) [
-          | yes z ↦ given-none (fault-lawful cat (length cells) z) (which (stray cat a)) (eq-zero-or-pos (total cat)) (eq-zero-or-pos (roomIn (storeIn keys left right 0)))
+          | yes z ↦ given-none (fault-lawful cat (length cells) z) (which (stray cat a)) (eq-zero-or-pos (total cat))
+              (eq-zero-or-pos (roomIn (storeIn keys left right 0)))
           | no h ↦ subst Others (sym (given h)) (inr (inl (catalogue-four cat (length cells) h)))
         ]

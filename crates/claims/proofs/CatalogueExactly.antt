@@ -35,7 +35,7 @@ module _ (cat : Catalogue) where
   out-iff : (low high x : ℕ) → (outside low high x ≡ true) ↔ ((x < low) ⊎ (high < x))
   out-iff low high x = or-iff (ltb x low) (ltb high x) (lt-iff x low) (lt-iff high x)
 
-  pub size-iff : (k : ℕ) → (sizeFault (cat .m) (cat .n) ≡ k) ↔ Sized k
+  size-iff : (k : ℕ) → (sizeFault (cat .m) (cat .n) ≡ k) ↔ Sized k
   size-iff k =
       let a = outside 1 mostAttributes (cat .m) in
       let b = outside 1 mostTables (cat .n) in

@@ -85,7 +85,7 @@ module _ (q r : State) (c : Copy q r) (h : roomIn (q .store) ≤ roomIn (r .stor
   byLooked (Damaged n) i = refl
 
   -- The same key offered to both.
-  pub offer-copy : (deepest : ℕ) → Alike q r (offered deepest q key tests) (offered deepest r key tests)
+  offer-copy : (deepest : ℕ) → Alike q r (offered deepest q key tests) (offered deepest r key tests)
   unfolding offered
   offer-copy deepest =
       rw (copy-search (q .store) (r .store) key deepest (c .store) some)

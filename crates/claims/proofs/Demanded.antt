@@ -39,7 +39,7 @@ module _ (cat : Catalogue) (cells : List ℕ) (L : Lawful cat (length cells)) wh
   -- ---- the padded row
 
   -- A maximal set's padded row, put in the front of the lent row, is its embedding there.
-  pub put-padded : (T : List ℕ) (k : ℕ) (row : List ℕ) → Maximal (W cat cells) T → setOf cat k ≡ T → Padded cat cells k row (paddedIn cat cells k row)
+  put-padded : (T : List ℕ) (k : ℕ) (row : List ℕ) → Maximal (W cat cells) T → setOf cat k ≡ T → Padded cat cells k row (paddedIn cat cells k row)
   put-padded T k row x e =
       let C = cellsIn cat cells in
       let m : Maximal (tables C) T = subst (λ (X : Tables). Maximal X T) (world-tables cat cells) x in
@@ -55,10 +55,11 @@ module _ (cat : Catalogue) (cells : List ℕ) (L : Lawful cat (length cells)) wh
 module _ (cat : Catalogue) (cells : List ℕ) (a : Asked) (L : Lawful cat (length cells)) where
   -- ---- a budget cut in two
 
-  pub call-split : (c i j : ℕ) (q : State) (row : List ℕ) → Sound cat cells a c q
+  call-split : (c i j : ℕ) (q : State) (row : List ℕ) → Sound cat cells a c q
       → call cat cells (i + j) q row ≡ goesOn (call cat cells i q row .says) (call cat cells i q row) (call cat cells j (call cat cells i q row .after) row)
   call-split c i j q row g =
-      by-call cat cells a L (λ s. s ≡ goesOn (call cat cells i q row .says) (call cat cells i q row) (call cat cells j (call cat cells i q row .after) row)) c (i + j) q row g
+      by-call cat cells a L (λ s. s ≡ goesOn (call cat cells i q row .says) (call cat cells i q row) (call cat cells j (call cat cells i q row .after)
+      row)) c (i + j) q row g
       (λ h.
       let s = work cat cells i q row in
       let f = call-work cat cells a L c j (s .after) row (went cat cells a L c i row q g .sound) h in
@@ -88,8 +89,10 @@ module _ (cat : Catalogue) (cells : List ℕ) (a : Asked) (L : Lawful cat (lengt
         let s = call cat cells b p row in
         let x = then gs b row in
         let r : s .row ≡ paddedIn cat cells (s .key) row = subst (RowBy cat cells row s) e (call-row cat cells row b p) in
-        let k : takenKeys p ++ (s .key ∷ []) ≡ takenKeys (s .after) = subst (λ (a : Says). takenKeys p ++ keysIn a (s .key) ≡ takenKeys (s .after)) e (x .keys) in
-        let m : List·Memᴰ (s .key) (takenKeys (s .after)) = subst (λ (l : List ℕ). List·Memᴰ (s .key) l) k (Memᴰ·append-right (takenKeys p) (List·Memᴰ·head refl)) in
+        let k : takenKeys p ++ (s .key ∷ []) ≡ takenKeys (s .after) = subst (λ (a : Says). takenKeys p ++ keysIn a (s .key) ≡ takenKeys (s .after)) e
+        (x .keys) in
+        let m : List·Memᴰ (s .key) (takenKeys (s .after)) = subst (λ (l : List ℕ). List·Memᴰ (s .key) l) k
+        (Memᴰ·append-right (takenKeys p) (List·Memᴰ·head refl)) in
         let (T, t, f) = taken-only cat cells a L c (s .after) (x .sound) (s .key) m in
         let x′ = sought-maximal (W cat cells) a T t in
         subst (Padded cat cells (s .key) row) (sym r) (put-padded cat cells L T (s .key) row x′ (ap (setOf cat) f ∙ maximal-set cat cells L T x′))
@@ -135,7 +138,8 @@ module _ (cat : Catalogue) (cells : List ℕ) (a : Asked) (L : Lawful cat (lengt
     gap-from p x z gs b f l =
         record {
           trials = all;
-          tests = rw (mul-comm (total cat) (cat .n * total cat)) at (rw all at (bounded (λ s. s .tests) (cat .n * total cat) (λ v g y. each-call v g y .tests)));
+          tests = rw (mul-comm (total cat) (cat .n * total cat)) at
+              (rw all at (bounded (λ s. s .tests) (cat .n * total cat) (λ v g y. each-call v g y .tests)));
           looks = rw all at (bounded (λ s. s .looks) (deepest cat + 1) (λ v g y. each-call v g y .looks));
         }
       where

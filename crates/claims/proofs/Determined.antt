@@ -115,10 +115,12 @@ steps-one v v′ r r′ ks ls rs w ks′ ls′ rs′ w′ e =
         ∙ ap (made (r′ .answer) (r′ .key) (r′ .trials) (r′ .tests) (r′ .looks)) s
 
 -- The thin call's answer and its record are read off the by-value answer that the two make up.
-nexts-one : (r r′ : NextAnswer) (q q′ : StreamRecord) (ks ls rs w ks′ ls′ rs′ w′ : List ℕ) → calledOf (withRecord r q) ks ls rs w ≡ calledOf (withRecord r′ q′) ks′ ls′ rs′ w′
+nexts-one : (r r′ : NextAnswer) (q q′ : StreamRecord) (ks ls rs w ks′ ls′ rs′ w′ : List ℕ)
+    → calledOf (withRecord r q) ks ls rs w ≡ calledOf (withRecord r′ q′) ks′ ls′ rs′ w′
     → (r ≡ r′) × (q ≡ q′) × (ks ≡ ks′) × (ls ≡ ls′) × (rs ≡ rs′) × (w ≡ w′)
 nexts-one r r′ q q′ ks ls rs w ks′ ls′ rs′ w′ e =
-    let t = steps-one everySet everySet (withRecord r q) (withRecord r′ q′) ks ls rs w ks′ ls′ rs′ w′ e in (ap answer (t .0), ap (λ (x : StepAnswer). x .stream) (t .0), t .1, t .2, t .3, t .4)
+    let t = steps-one everySet everySet (withRecord r q) (withRecord r′ q′) ks ls rs w ks′ ls′ rs′ w′ e in
+    (ap answer (t .0), ap (λ (x : StepAnswer). x .stream) (t .0), t .1, t .2, t .3, t .4)
   where
     answer : StepAnswer → NextAnswer
     answer x = record { answer = x .answer; key = x .key; trials = x .trials; tests = x .tests; looks = x .looks }

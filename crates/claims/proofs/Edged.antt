@@ -37,8 +37,11 @@ sample-scanned = (refl, refl)
 pub sample-loads : SampleLoads
 unfolding three
 sample-loads lent after r h l =
-    let e : r ≡ found three = l .answer ∙ ap (scanOf sampleBytes) h ∙ sample-scanned .0 in
-    (e, l .cells ∙ ap (λ (x : Loaded). cellsAfter (x .verdict) (tablesCodes (x .catalogue .n) sampleBytes firstTable) lent) e ∙ ap (λ (c : List ℕ). put c lent) (sample-scanned .1))
+    let e : r ≡ found three = l .answer ∙ ap (scanOf sampleBytes) h ∙ sample-scanned .0 in (
+      e,
+      l .cells ∙ ap (λ (x : Loaded). cellsAfter (x .verdict) (tablesCodes (x .catalogue .n) sampleBytes firstTable) lent) e
+          ∙ ap (λ (c : List ℕ). put c lent) (sample-scanned .1),
+    )
 
 -- ---- the list
 

@@ -87,7 +87,8 @@ module _ (image : List ℕ) (room : ℕ) where
 
 module _ (image cells words : List ℕ) (r : ℕ) (cells′ words′ : List ℕ) (c : LoadCall image cells words r cells′ words′) where
   load-few : (r ≡ tooFewWords) ↔ (length words < catalogueWords)
-  load-few = only-few (short words) (doorNumber (scanOf image (length cells) .verdict)) r (lt-iff (length words) catalogueWords) (door-apart image (length cells)) (c .answer)
+  load-few = only-few (short words) (doorNumber (scanOf image (length cells) .verdict)) r (lt-iff (length words) catalogueWords)
+      (door-apart image (length cells)) (c .answer)
 
   module _ (h : catalogueWords ≤ length words) where
     long : short words ≡ false
@@ -103,7 +104,8 @@ module _ (image cells words : List ℕ) (r : ℕ) (cells′ words′ : List ℕ)
         let a : r ≡ f .place * 32 + f .refusal = load-answer ∙ ap doorNumber e in (
           omega (arith, n .1),
           omega (arith, n .1),
-          behind (short words) cells (cellsAfter (scanOf image (length cells) .verdict) (tablesCodes (scanOf image (length cells) .catalogue .n) image firstTable) cells) cells′ long (c .cells-after)
+          behind (short words) cells (cellsAfter (scanOf image (length cells) .verdict) (tablesCodes (scanOf image (length cells) .catalogue .n) image
+              firstTable) cells) cells′ long (c .cells-after)
               ∙ ap (λ (v : Verdict). cellsAfter v (tablesCodes (scanOf image (length cells) .catalogue .n) image firstTable) cells) e,
           behind (short words) words (put (wordsOf (scanOf image (length cells) .catalogue)) words) words′ long (c .words-after)
               ∙ ap (λ (t : Catalogue). put (wordsOf t) words) (scan-zeros image (length cells) f e),
@@ -162,7 +164,8 @@ module _ (w : ℕ) (a : Asked) (catalogue cells keys left right words : List ℕ
   open-low : o .refusal < tooFewWords
   open-low = by (open-exact (catalogueIn catalogue) cells a keys left right .no-other (o .refusal) refl)
     where
-      by : (o .refusal ≡ 0) ⊎ ((o .refusal ≡ 4) ⊎ (o .refusal ≡ 5) ⊎ (o .refusal ≡ 6) ⊎ (o .refusal ≡ 8)) ⊎ (o .refusal ≡ 19) ⊎ (o .refusal ≡ 12) → o .refusal < tooFewWords
+      by : (o .refusal ≡ 0) ⊎ ((o .refusal ≡ 4) ⊎ (o .refusal ≡ 5) ⊎ (o .refusal ≡ 6) ⊎ (o .refusal ≡ 8)) ⊎ (o .refusal ≡ 19) ⊎ (o .refusal ≡ 12)
+          → o .refusal < tooFewWords
       by (inl e) = omega arith
       by (inr (inl (inl e))) = omega arith
       by (inr (inl (inr (inl e)))) = omega arith
@@ -186,7 +189,8 @@ module _ (w : ℕ) (a : Asked) (catalogue cells keys left right words : List ℕ
               behind (openShort w catalogue words) keys (o .after .store .keys) ks f (c .keys-after) ∙ ap (λ (q : State). q .store .keys) z,
               behind (openShort w catalogue words) left (o .after .store .left) ls f (c .left-after) ∙ ap (λ (q : State). q .store .left) z,
               behind (openShort w catalogue words) right (o .after .store .right) rs f (c .right-after) ∙ ap (λ (q : State). q .store .right) z,
-              behind (openShort w catalogue words) words (put (wordsOfState (o .after)) words) ws f (c .words-after) ∙ ap (λ (q : State). put (wordsOfState q) words) z,
+              behind (openShort w catalogue words) words (put (wordsOfState (o .after)) words) ws f (c .words-after)
+                  ∙ ap (λ (q : State). put (wordsOfState q) words) z,
             );
       }
 
@@ -208,7 +212,8 @@ put-five (x ∷ y ∷ z ∷ u ∷ []) h = absurd (omega arith)
 put-five (x ∷ y ∷ z ∷ u ∷ v ∷ l) h = refl
 
 -- Of either stream, whose record has w words and reads as a state of these lists.
-module _ (w : ℕ) (a : Asked) (catalogue cells keys left right words : List ℕ) (b found taken next : ℕ) (row result : List ℕ) (r : ℕ) (ks ls rs ws w′ res : List ℕ)
+module _ (w : ℕ) (a : Asked) (catalogue cells keys left right words : List ℕ) (b found taken next : ℕ) (row result : List ℕ) (r : ℕ)
+    (ks ls rs ws w′ res : List ℕ)
     (c : Calling (nextShort w catalogue words result) (call (catalogueIn catalogue) cells b (stateFor a keys left right found taken next) row)
     keys left right words row result r ks ls rs ws w′ res) where
   abbrev q : State
@@ -275,24 +280,30 @@ pub abi-exact : AbiExact
 abi-exact =
     record {
       load-few = load-few;
-      load-good = λ image cells words r cells′ words′ c h. subst (λ (x : ℕ). (x ≡ 0) ↔ (scanOf image (length cells) .verdict ≡ Good)) (sym (load-answer image cells words r cells′ words′ c h)) (door-good image (length cells));
+      load-good = λ image cells words r cells′ words′ c h. subst (λ (x : ℕ). (x ≡ 0) ↔ (scanOf image (length cells) .verdict ≡ Good))
+          (sym (load-answer image cells words r cells′ words′ c h)) (door-good image (length cells));
       load-refused = load-refused;
       write-few = write-few;
       write-length = write-length;
       write-refused = write-refused;
       open-few = open-few recordWords everySet;
       open-told = open-told recordWords everySet;
-      open-holding-few = λ catalogue cells keys left right t n. open-few holdingWords (everyWith (record { table = t; row = n })) catalogue cells keys left right;
-      open-holding-told = λ catalogue cells keys left right t n. open-told holdingWords (everyWith (record { table = t; row = n })) catalogue cells keys left right;
+      open-holding-few = λ catalogue cells keys left right t n. open-few holdingWords (everyWith (record { table = t; row = n })) catalogue cells keys
+          left right;
+      open-holding-told = λ catalogue cells keys left right t n. open-told holdingWords (everyWith (record { table = t; row = n })) catalogue cells
+          keys left right;
       next-few = λ catalogue cells keys left right words b row result.
           next-few recordWords everySet catalogue cells keys left right words b (getD words 0 0) (getD words 1 0) (getD words 2 0) row result;
       next-told = λ catalogue cells keys left right words b row result r ks ls rs ws w′ res c n.
-          next-told recordWords everySet catalogue cells keys left right words b (getD words 0 0) (getD words 1 0) (getD words 2 0) row result r ks ls rs ws w′ res c n
+          next-told recordWords everySet catalogue cells keys left right words b (getD words 0 0) (getD words 1 0) (getD words 2 0) row result r ks ls
+          rs ws w′ res c n
           (put-three words (enough recordWords catalogue words result n));
       next-holding-few = λ catalogue cells keys left right words b row result.
-          next-few holdingWords (everyWith (record { table = getD words 3 0; row = getD words 4 0 })) catalogue cells keys left right words b (getD words 0 0) (getD words 1 0) (getD words 2 0) row result;
+          next-few holdingWords (everyWith (record { table = getD words 3 0; row = getD words 4 0 })) catalogue cells keys left right words b
+          (getD words 0 0) (getD words 1 0) (getD words 2 0) row result;
       next-holding-told = λ catalogue cells keys left right words b row result r ks ls rs ws w′ res c n.
-          next-told holdingWords (everyWith (record { table = getD words 3 0; row = getD words 4 0 })) catalogue cells keys left right words b (getD words 0 0) (getD words 1 0) (getD words 2 0) row result r ks ls rs ws w′ res c n
+          next-told holdingWords (everyWith (record { table = getD words 3 0; row = getD words 4 0 })) catalogue cells keys left right words b
+          (getD words 0 0) (getD words 1 0) (getD words 2 0) row result r ks ls rs ws w′ res c n
           (put-five words (enough holdingWords catalogue words result n));
     }
   where

@@ -129,7 +129,8 @@ module _ (cat : Catalogue) (cells : List ℕ) (asked : Asked) where
 -- ---- on the sample
 
 -- The sample's stream meets the demands in a store of four records.
-pub sample-demands : Demand2 three threeCells everySet (call three threeCells) (first 4 .after) × Demand3 three threeCells everySet (call three threeCells) 4 (first 4 .after)
+pub sample-demands : Demand2 three threeCells everySet (call three threeCells) (first 4 .after) × Demand3 three threeCells everySet
+    (call three threeCells) 4 (first 4 .after)
 unfolding first
 sample-demands = demands three threeCells everySet (replicate 4 0) (replicate 4 0) (replicate 4 0) (open-says .0)
 

@@ -76,7 +76,8 @@ module _ (cat : Catalogue) (cells : List ℕ) (a : Asked) where
 
     -- The list after a trial.
     tried-list : (c : ℕ) (q p : State) (g : Live cat cells a c q) (t l : ℕ) (d : Did cat cells a c q g p t l) → (q .next ≡ total cat → ⊥)
-        → (listed cat cells (d .live .sets) p ≡ listMove (W cat cells) a (listed cat cells (g .sets) q)) × (t ≡ listTests (W cat cells) (listed cat cells (g .sets) q))
+        → (listed cat cells (d .live .sets) p ≡ listMove (W cat cells) a (listed cat cells (g .sets) q)) × (t ≡ listTests (W cat cells)
+        (listed cat cells (g .sets) q))
     unfolding listMove listTests try
     tried-list c q p g t l d e =
         let n = ne-eqb (q .next) (length (rows (W cat cells))) (λ x. e (x ∙ rows-total cat cells)) in
@@ -96,7 +97,8 @@ module _ (cat : Catalogue) (cells : List ℕ) (a : Asked) where
         record {
           sound = i .sound;
           list = i .list ∙ ap (listMoves (W cat cells) a (stepsOf s)) (x .0) ∙ ap (λ (k : ℕ). listMoves (W cat cells) a k z) (sym n);
-          tests = ap₂ (λ (u v : ℕ). u + v) (x .1) (i .tests ∙ ap (testsIn (W cat cells) a (stepsOf s)) (x .0)) ∙ ap (λ (k : ℕ). testsIn (W cat cells) a k z) (sym n);
+          tests = ap₂ (λ (u v : ℕ). u + v) (x .1) (i .tests ∙ ap (testsIn (W cat cells) a (stepsOf s)) (x .0))
+              ∙ ap (λ (k : ℕ). testsIn (W cat cells) a k z) (sym n);
         }
 
     work-held : (c b : ℕ) (row : List ℕ) (q : State) (g : Sound cat cells a c q) → Held c q g (work cat cells b q row)
@@ -126,7 +128,8 @@ module _ (cat : Catalogue) (cells : List ℕ) (a : Asked) where
     run-held c (x ∷ gs) q g =
         let s = one cat cells x q in
         let h =
-        by-call cat cells a L (Held c q g) c (x .budget) q (x .row) g (λ m. work-held c (x .budget) (x .row) q g) (λ m. held-none c q g (refused 11) (x .row) refl) in
+        by-call cat cells a L (Held c q g) c (x .budget) q (x .row) g (λ m. work-held c (x .budget) (x .row) q g)
+        (λ m. held-none c q g (refused 11) (x .row) refl) in
         let i = run-held c gs (s .after) (h .sound) in
         let r = run cat cells gs (s .after) in
         let z = listOf cat cells a c q g in

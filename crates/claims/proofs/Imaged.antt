@@ -50,7 +50,8 @@ loaded-demands =
       every-set = λ s lent cells r by l good keys left right h o ks ls rs e.
           from-open (r .catalogue) cells everySet (loads-accepted s lent cells r by good l .lawful) tt keys left right h _ e;
       holding = λ s lent cells r by l good keys left right table row there h o ks ls rs e.
-          from-open (r .catalogue) cells (everyWith (record { table = table; row = row })) (loads-accepted s lent cells r by good l .lawful) there keys left right (λ n. h) _ e;
+          from-open (r .catalogue) cells (everyWith (record { table = table; row = row })) (loads-accepted s lent cells r by good l .lawful) there
+          keys left right (λ n. h) _ e;
     }
 
 pub round-trips : RoundTrips

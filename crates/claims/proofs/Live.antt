@@ -127,7 +127,8 @@ module _ (cat : Catalogue) (cells : List ℕ) where
         had : Stored (q .store) key → List·Memᴰ U (g .sets)
         had (p, l, e) =
             let m = mem-at (g .sets) [] p (omega (arith, g .long)) in
-            let f : getD (g .sets) p [] ≡ U = maximal-same L (getD (g .sets) p []) U (g .going .maximal (getD (g .sets) p []) m) topU (sym (g .keyed p l) ∙ e) in
+            let f : getD (g .sets) p [] ≡ U = maximal-same L (getD (g .sets) p []) U (g .going .maximal (getD (g .sets) p []) m) topU
+            (sym (g .keyed p l) ∙ e) in
             subst (λ (X : List ℕ). List·Memᴰ X (g .sets)) f m
 
         new : (Stored (q .store) key → ⊥) → List·Memᴰ U (g .sets) → ⊥
@@ -182,7 +183,8 @@ module _ (cat : Catalogue) (cells : List ℕ) where
             }
           where
             at-end : (j : ℕ) → j ≡ q .store .found → getD (added (q .store) key p s .keys) j 0 ≡ keyOf bitsPerRow (getD (g .sets ++ (U ∷ [])) j [])
-            at-end j x = rw x (added-cells (q .store) key p s l h .new-key ∙ ap (keyOf bitsPerRow) (sym (getD-at (g .sets) U [] [] (q .store .found) (g .long))))
+            at-end j x = rw x (added-cells (q .store) key p s l h .new-key
+                ∙ ap (keyOf bitsPerRow) (sym (getD-at (g .sets) U [] [] (q .store .found) (g .long))))
 
             before : (j : ℕ) → j < q .store .found → getD (added (q .store) key p s .keys) j 0 ≡ keyOf bitsPerRow (getD (g .sets ++ (U ∷ [])) j [])
             before j x =
@@ -205,8 +207,12 @@ module _ (cat : Catalogue) (cells : List ℕ) where
                 → Comes c q g (placed q (trial W T (rowAt W (q .next)) .tests) (cond f (Added n) Full) (cond f (added (q .store) key p s) (q .store)))
             free false e y =
                 let h : roomIn (q .store) ≤ q .store .found = ltb-false (q .store .found) (roomIn (q .store)) e in
-                let k = ahead (g .sets ++ (U ∷ [])) (kept-new w (o .0)) in
-                (g .sets ++ (U ∷ []), k .distinct, going-sought W a (record { sets = g .sets ++ (U ∷ []); taken = q .taken; next = q .next + 1 }) k, omega (arith, longer, g .size))
+                let k = ahead (g .sets ++ (U ∷ [])) (kept-new w (o .0)) in (
+                  g .sets ++ (U ∷ []),
+                  k .distinct,
+                  going-sought W a (record { sets = g .sets ++ (U ∷ []); taken = q .taken; next = q .next + 1 }) k,
+                  omega (arith, longer, g .size),
+                )
             free true e y =
                 let h : q .store .found < roomIn (q .store) = ltb-true (q .store .found) (roomIn (q .store)) e in
                 record {

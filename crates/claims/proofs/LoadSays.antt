@@ -90,7 +90,8 @@ module _ (s : List ℕ) (room : ℕ) where
   unfolding tablesFrom tablesSay
   tables-say zero m n t u xs cs i = by (ltb i (length s))
     where
-      by : (b : Bool) → cond b (refused (refusalAt 9 i)) (record { verdict = Good; catalogue = record { m = m; n = n; schemes = xs; rows = cs } }) .verdict ≡ cond b (Refused (refusalAt 9 i)) Good
+      by : (b : Bool) → cond b (refused (refusalAt 9 i)) (record { verdict = Good; catalogue = record { m = m; n = n; schemes = xs; rows = cs } }) .verdict
+          ≡ cond b (Refused (refusalAt 9 i)) Good
       by true = refl
       by false = refl
   tables-say (suc k) m n t u xs cs i = by (tableAt s room m u i) (λ x c v e. tables-say k m n (t + 1) v (set xs t x) (set cs t c) e)

@@ -137,13 +137,14 @@ module _ (cat : Catalogue) (cells : List ℕ) (a : Asked) (L : Lawful cat (lengt
       → Twin (call cat cells b q row) (call cat cells b r row)
   unfolding call
   call-twin b row q r g k m =
-      subst (λ (n : ℕ). Twin (call cat cells b q row) (unlessMet n r row (work cat cells b r row))) (sym (fault-copy q r row k m)) (by (callFault cat (length cells) q row))
+      subst (λ (n : ℕ). Twin (call cat cells b q row) (unlessMet n r row (work cat cells b r row))) (sym (fault-copy q r row k m))
+      (by (callFault cat (length cells) q row))
     where
       by : (n : ℕ) → Twin (unlessMet n q row (work cat cells b q row)) (unlessMet n r row (work cat cells b r row))
       by zero = work-twin b row q r g k m
       by (suc n) = twin-answer (refused (suc n)) q r row k m
 
-  pub run-twin : (gs : List Given) (q r : State) → Sound cat cells a c q → Copy q r → roomIn (r .store) ≡ roomIn (q .store)
+  run-twin : (gs : List Given) (q r : State) → Sound cat cells a c q → Copy q r → roomIn (r .store) ≡ roomIn (q .store)
       → (sight (run cat cells gs r) ≡ sight (run cat cells gs q)) × Copy (ended cat cells gs q) (ended cat cells gs r)
   unfolding runOf endedOf sight
   run-twin [] q r g k e = (refl, k)
@@ -192,7 +193,8 @@ module _ (cat : Catalogue) (cells : List ℕ) (a : Asked) (L : Lawful cat (lengt
         spent = λ q e r g k m.
             subst (Pace q r (answer working q row)) (sym (work-spent cat cells row r (copy-not q r k e))) (pace-none q r row working working k refl refl);
         fills = λ b q e f r g k m.
-            subst (Pace q r (answer (refused 12) q row)) (sym (work-spent cat cells row r (copy-not q r k e))) (pace-none q r row (refused 12) working k refl refl);
+            subst (Pace q r (answer (refused 12) q row)) (sym (work-spent cat cells row r (copy-not q r k e)))
+            (pace-none q r row (refused 12) working k refl refl);
         fails = λ b q e f r g k m. absurd (never-damaged q g e f);
         goes = λ b q p t l e f ih r g k m.
             let y = alike q r k (done p t l) g e f m in
@@ -212,7 +214,8 @@ module _ (cat : Catalogue) (cells : List ℕ) (a : Asked) (L : Lawful cat (lengt
       → Pace cat cells a L c q r (one cat cells x q) (one cat cells (paced x q) r)
   call-pace x q r g h k m =
       by-call cat cells a L (λ s. Pace cat cells a L c q r s (call cat cells (s .trials) r (x .row))) c (x .budget) q (x .row) g
-      (λ l. rw (call-work cat cells a L c' (work cat cells (x .budget) q (x .row) .trials) r (x .row) h l) (work-pace cat cells a L c (x .budget) (x .row) q r g k m))
+      (λ l. rw (call-work cat cells a L c' (work cat cells (x .budget) q (x .row) .trials) r (x .row) h l)
+      (work-pace cat cells a L c (x .budget) (x .row) q r g k m))
       (λ l. rw (call-low cat cells a L c' 0 r (x .row) h l) (pace-none cat cells a L c q r (x .row) (refused 11) (refused 11) k refl refl))
 
   -- What calls gs have come to on the short store, some calls es come to on the long one.
@@ -221,7 +224,7 @@ module _ (cat : Catalogue) (cells : List ℕ) (a : Asked) (L : Lawful cat (lengt
     pub copy : Copy (ended cat cells gs q) (ended cat cells es r)
     pub long : roomIn (ended cat cells es r .store) ≡ roomIn (r .store)
 
-  pub run-pace : (gs : List Given) (q r : State) → Sound cat cells a c q → Sound cat cells a c' r → Copy q r → roomIn (q .store) ≤ roomIn (r .store)
+  run-pace : (gs : List Given) (q r : State) → Sound cat cells a c q → Sound cat cells a c' r → Copy q r → roomIn (q .store) ≤ roomIn (r .store)
       → (es : List Given) × Paced gs q r es
   unfolding runOf endedOf
   run-pace [] q r g h k m = ([], record { steps = refl; copy = k; long = refl })
@@ -326,7 +329,8 @@ module _ (cat : Catalogue) (cells : List ℕ) (asked : Asked) where
 
       both : (gs es : List Given) → made (run cat cells es q') ≡ made (run cat cells gs q) → (v : State) → Copy (ended cat cells gs q) v
           → roomIn (v .store) ≡ roomIn (q' .store) → (hs : List Given)
-          → (sight (run cat cells hs v) ≡ sight (run cat cells hs (ended cat cells es q'))) × Copy (ended cat cells hs (ended cat cells es q')) (ended cat cells hs v)
+          → (sight (run cat cells hs v) ≡ sight (run cat cells hs (ended cat cells es q'))) × Copy (ended cat cells hs (ended cat cells es q'))
+          (ended cat cells hs v)
       both gs es m v y z hs =
           let d = paces gs .1 in
           let p = ended cat cells es q' in

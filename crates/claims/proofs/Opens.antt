@@ -45,7 +45,7 @@ module _ (cat : Catalogue) (cells : List ℕ) (a : Asked) where
   abbrev opened : ℕ → Sets.State
   opened n = record { sets = firstGrown cat cells a .rows ∷ []; taken = 0; next = n }
 
-  pub first-going : Askable cat a → 0 < total cat → Going (W cat cells) a (opened (total cat))
+  first-going : Askable cat a → 0 < total cat → Going (W cat cells) a (opened (total cat))
   first-going y h =
       let there = able-there cat cells a y in
       let r = first-there (W cat cells) a there (rw (rows-total cat cells) h) in
@@ -75,7 +75,11 @@ module _ (cat : Catalogue) (cells : List ℕ) (a : Asked) (keys left right : Lis
 
   -- 19 and 12, behind a lawful catalogue.
   pub stray-met-iff : Lawful cat (length cells) → (openingFor cat cells a keys left right .refusal ≡ 19) ↔ (Askable cat a → ⊥)
-  stray-met-iff L = (λ e y. absurd (under (eq-zero-or-pos (total cat)) (eq-zero-or-pos room) y e), λ n. ⊎-elim (stray-met L) (λ f. absurd (n (stray-iff cat a .0 f))) (which (stray cat a)))
+  stray-met-iff L = (
+    λ e y. absurd (under (eq-zero-or-pos (total cat)) (eq-zero-or-pos room) y e),
+    λ n. ⊎-elim (stray-met L)
+        (λ f. absurd (n (stray-iff cat a .0 f))) (which (stray cat a)),
+  )
     where
       under : (total cat ≡ 0) ⊎ (0 < total cat) → (room ≡ 0) ⊎ (0 < room) → Askable cat a → openingFor cat cells a keys left right .refusal ≡ 19 → ⊥
       under (inr h) (inl z) y e =

@@ -72,7 +72,8 @@ unchanged =
       write = λ cat cells lent after k w. w .bytes;
       «open» = λ cat cells keys left right o ks ls rs e n.
           let z = demand1 cat cells everySet .zeroed keys left right (λ f. n (ap (λ (x : Opened). x .refusal) e ∙ f)) .0 in
-          state-one everySet everySet (o .stream) (record { found = 0; taken = 0; «next_row» = 0 }) ks ls rs keys left right (ap (λ (x : Opened). x .after) e ∙ z);
+          state-one everySet everySet (o .stream) (record { found = 0; taken = 0; «next_row» = 0 }) ks ls rs keys left right
+          (ap (λ (x : Opened). x .after) e ∙ z);
       step = λ cat cells keys left right s b row r ks ls rs w e n.
           let d = e ∙ demand1 cat cells everySet .refuses b (stateOf s keys left right) row n in
           let (f, k, l, m) = state-one everySet everySet (r .stream) s ks ls rs keys left right (ap (λ (x : Called). x .after) d) in

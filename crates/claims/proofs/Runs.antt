@@ -94,10 +94,11 @@ module _ (cat : Catalogue) (cells : List ℕ) where
         → (T : List ℕ) → Sought (W cat cells) a T → List·Memᴰ T (g .sets)
     found-all q g e b T =
         let some : 0 < length (g .sets) = omega (arith, g .tree .1 .some, g .long) in
-        Kept.finished (W cat cells) a (world-symmetric cat cells) (able-there cat cells a (g .able)) (listed cat cells (g .sets) q) (g .going) some (e ∙ sym (g .long)) (b ∙ sym (rows-total cat cells)) T .0
+        Kept.finished (W cat cells) a (world-symmetric cat cells) (able-there cat cells a (g .able)) (listed cat cells (g .sets) q) (g .going) some (e
+        ∙ sym (g .long)) (b ∙ sym (rows-total cat cells)) T .0
 
     -- .. and taken.
-    pub taken-all : (q : State) → Sound cat cells a c q → q .taken ≡ q .store .found → q .next ≡ total cat
+    taken-all : (q : State) → Sound cat cells a c q → q .taken ≡ q .store .found → q .next ≡ total cat
         → (T : List ℕ) → Sought (W cat cells) a T → List·Memᴰ (keyOf bitsPerRow T) (takenKeys q)
     taken-all q (inl g) d b T x =
         let (i, l, e) = at-mem [] (found-all q g d b T x) in

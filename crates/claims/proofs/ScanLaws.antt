@@ -150,7 +150,7 @@ module _ (f : ℕ → ℕ) where
             scan-bad k i (λ z. h (sym e ∙ z)) ∙ e
       ]
 
-  pub scan-iff : (k v : ℕ) → (v ≡ 0 → ⊥) → (scan f k 0 ≡ v) ↔ Found 0 k v
+  scan-iff : (k v : ℕ) → (v ≡ 0 → ⊥) → (scan f k 0 ≡ v) ↔ Found 0 k v
   scan-iff k v h = (scan-found k 0 v h, found-scan k 0 v h)
 
   scan-clear : (k i : ℕ) → scan f k i ≡ 0 → (u : ℕ) → i ≤ u → u < i + k → f u ≡ 0
@@ -168,7 +168,7 @@ module _ (f : ℕ → ℕ) where
   clear-scan zero i h = refl
   clear-scan (suc k) i h = scan-more k i (h i (omega arith) (omega arith)) ∙ clear-scan k (i + 1) (λ u l b. h u (omega arith) (omega arith))
 
-  pub clear-iff : (k : ℕ) → (scan f k 0 ≡ 0) ↔ ((u : ℕ) → u < k → f u ≡ 0)
+  clear-iff : (k : ℕ) → (scan f k 0 ≡ 0) ↔ ((u : ℕ) → u < k → f u ≡ 0)
   clear-iff k = (λ e u h. scan-clear k 0 e u (omega arith) (omega arith), λ h. clear-scan k 0 (λ u l b. h u (omega arith)))
 
 -- ---- what many checks find

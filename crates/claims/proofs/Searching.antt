@@ -40,7 +40,7 @@ module _ (s : Store) (key bits : ℕ) where
   other : (p : ℕ) → hit p ≡ false → Other s key bits p
   other p e = eqb-false (getD (s .keys) p 0) key e
 
-  pub search-said : Said (searchOf s key bits)
+  search-said : Said (searchOf s key bits)
   unfolding searchOf
   search-said =
       by-looks hit (bitOf key) (linkOf (s .left) (s .right)) (s .found) (λ f d p a. LooksAt s key bits d p → d + f ≡ bits → Said a)
@@ -60,11 +60,12 @@ module _ (s : Store) (key bits : ℕ) where
       let (k, e) = looks-walk w in (
         omega arith,
         e
-            ∙ walk-on hit (bitOf key) (linkOf (s .left) (s .right)) (s .found) (bits - d) (bits - (d + 1)) d p (omega arith) (ne-eqb (getD (s .keys) p 0) key o) (λ z. absurd (omega arith)) (omega arith)
+            ∙ walk-on hit (bitOf key) (linkOf (s .left) (s .right)) (s .found) (bits - d) (bits - (d + 1)) d p (omega arith)
+            (ne-eqb (getD (s .keys) p 0) key o) (λ z. absurd (omega arith)) (omega arith)
             ∙ ap (λ (x : ℕ). walkIn s key (bits - (d + 1)) (d + 1) x) (let z : linkDue s key bits d p - 1 ≡ r = omega arith in z),
       )
 
-  pub empty-absent : EndsEmpty s key bits → (p : ℕ) × (t : Bool) × (n : ℕ) × (searchOf s key bits ≡ Absent p t n)
+  empty-absent : EndsEmpty s key bits → (p : ℕ) × (t : Bool) × (n : ℕ) × (searchOf s key bits ≡ Absent p t n)
   unfolding searchOf
   empty-absent (d, p, w, o, h, z) = (
     p,
@@ -74,15 +75,16 @@ module _ (s : Store) (key bits : ℕ) where
         ∙ walk-absent hit (bitOf key) (linkOf (s .left) (s .right)) (s .found) (bits - d) d p (omega arith) (ne-eqb (getD (s .keys) p 0) key o) z,
   )
 
-  pub passes-damaged : LinkPasses s key bits → (n : ℕ) × (searchOf s key bits ≡ Damaged n)
+  passes-damaged : LinkPasses s key bits → (n : ℕ) × (searchOf s key bits ≡ Damaged n)
   unfolding searchOf
   passes-damaged (d, p, w, o, h, u) = (
     d + 1,
     looks-walk w .1
-        ∙ walk-past hit (bitOf key) (linkOf (s .left) (s .right)) (s .found) (bits - d) d p (omega arith) (ne-eqb (getD (s .keys) p 0) key o) (λ z. absurd (omega arith)) u,
+        ∙ walk-past hit (bitOf key) (linkOf (s .left) (s .right)) (s .found) (bits - d) d p (omega arith) (ne-eqb (getD (s .keys) p 0) key o)
+        (λ z. absurd (omega arith)) u,
   )
 
-  pub often-damaged : LooksTooOften s key bits → (n : ℕ) × (searchOf s key bits ≡ Damaged n)
+  often-damaged : LooksTooOften s key bits → (n : ℕ) × (searchOf s key bits ≡ Damaged n)
   unfolding searchOf
   often-damaged (p, w, o) = (
     bits + 1,
@@ -111,7 +113,7 @@ module _ (cat : Catalogue) (cells : List ℕ) (q : State) where
   Met damaged = Damage cat cells q
   Met (done p t l) = _≡_ {A = ℕ} 0 0
 
-  pub trial-met : Met (trialOn cat cells q)
+  trial-met : Met (trialOn cat cells q)
   unfolding trialOn offered placed answerOf storeAfter
   trial-met = byNamed (named cat (keyAt q (q .taken - 1))) refl
     where

@@ -60,7 +60,7 @@ module _ (cat : Catalogue) (cells : List ℕ) where
 
   -- ---- the rule's steps
 
-  pub moves-add : (a b : ℕ) (q : State) → moves cat cells (a + b) q ≡ moves cat cells b (moves cat cells a q)
+  moves-add : (a b : ℕ) (q : State) → moves cat cells (a + b) q ≡ moves cat cells b (moves cat cells a q)
   unfolding moves
   moves-add zero b q = rw zero-add refl
   moves-add (suc a) b q = rw suc-add (moves-add a b (move cat cells q))
@@ -78,11 +78,11 @@ module _ (cat : Catalogue) (cells : List ℕ) where
     pub state : s .after ≡ moves cat cells (stepsOf s) q
     pub looks : s .looks ≡ looksIn cat cells (stepsOf s) q
 
-  pub move-set : (q : State) → q .next ≡ total cat → (q .taken ≡ q .store .found → ⊥) → named cat (keyDue q) ≡ true → move cat cells q ≡ takenOf q
+  move-set : (q : State) → q .next ≡ total cat → (q .taken ≡ q .store .found → ⊥) → named cat (keyDue q) ≡ true → move cat cells q ≡ takenOf q
   unfolding move
   move-set q e f k = rw (eq-eqb (q .next) (total cat) e, ne-eqb (q .taken) (q .store .found) f, k)
 
-  pub move-trial : (q p : State) (t l : ℕ) → (q .next ≡ total cat → ⊥) → trialOn cat cells q ≡ done p t l → move cat cells q ≡ p
+  move-trial : (q p : State) (t l : ℕ) → (q .next ≡ total cat → ⊥) → trialOn cat cells q ≡ done p t l → move cat cells q ≡ p
   unfolding move
   move-trial q p t l e f = rw (ne-eqb (q .next) (total cat) e, f)
 
@@ -110,7 +110,7 @@ module _ (cat : Catalogue) (cells : List ℕ) where
   moved-none q a row e =
       record { state = ap (λ (k : ℕ). moves cat cells k q) (sym e); looks = ap (λ (k : ℕ). looksIn cat cells k q) (sym e) }
 
-  pub work-moves : (row : List ℕ) (b : ℕ) (q : State) → Moved q (work cat cells b q row)
+  work-moves : (row : List ℕ) (b : ℕ) (q : State) → Moved q (work cat cells b q row)
   work-moves row =
       by-ways cat cells row (λ b q s. Moved q s)
       (record {
@@ -123,7 +123,7 @@ module _ (cat : Catalogue) (cells : List ℕ) where
         goes = λ b q p t l e f ih. moved-trial q p t l (work cat cells b p row) e f ih;
       })
 
-  pub call-moves : (b : ℕ) (q : State) (row : List ℕ) → Moved q (call cat cells b q row)
+  call-moves : (b : ℕ) (q : State) (row : List ℕ) → Moved q (call cat cells b q row)
   unfolding call
   call-moves b q row = by (callFault cat (length cells) q row)
     where

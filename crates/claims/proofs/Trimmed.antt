@@ -90,19 +90,23 @@ module _ (cat : Catalogue) (xs cs : List ℕ) (A : Agree cat xs cs) where
   module _ (cells : List ℕ) where
     abbrev extends : (T : List ℕ) → extension (worldOf cat′ cells) T ≡ extension (worldOf cat cells) T
     extends T =
-        extension-alike (cat .n) (countOf cat) (countOf cat′) (touchesIn cat) (touchesIn cat′) (fitsIn cat cells) (fitsIn cat′ cells) (A .rows) touches-same (fits-same cells) T
+        extension-alike (cat .n) (countOf cat) (countOf cat′) (touchesIn cat) (touchesIn cat′) (fitsIn cat cells) (fitsIn cat′ cells) (A .rows)
+        touches-same (fits-same cells) T
 
     row-same : (j : ℕ) → rowAt (worldOf cat′ cells) j ≡ rowAt (worldOf cat cells) j
     row-same j =
-        rowAt-alike (cat .n) (countOf cat) (countOf cat′) (touchesIn cat) (touchesIn cat′) (fitsIn cat cells) (fitsIn cat′ cells) (A .rows) touches-same (fits-same cells) j
+        rowAt-alike (cat .n) (countOf cat) (countOf cat′) (touchesIn cat) (touchesIn cat′) (fitsIn cat cells) (fitsIn cat′ cells) (A .rows)
+        touches-same (fits-same cells) j
 
     row-there : (j : ℕ) → 0 < cat .n → rowAt (worldOf cat cells) j .table < cat .n
     row-there j h =
-        rowAt-table (cat .n) (countOf cat) (countOf cat′) (touchesIn cat) (touchesIn cat′) (fitsIn cat cells) (fitsIn cat′ cells) (A .rows) touches-same (fits-same cells) j h
+        rowAt-table (cat .n) (countOf cat) (countOf cat′) (touchesIn cat) (touchesIn cat′) (fitsIn cat cells) (fitsIn cat′ cells) (A .rows)
+        touches-same (fits-same cells) j h
 
     tries : (T : List ℕ) (s : Place) → s .table < cat .n → trial (worldOf cat′ cells) T s ≡ trial (worldOf cat cells) T s
     tries T s h =
-        trial-alike (cat .n) (countOf cat) (countOf cat′) (touchesIn cat) (touchesIn cat′) (fitsIn cat cells) (fitsIn cat′ cells) (A .rows) touches-same (fits-same cells) T s h
+        trial-alike (cat .n) (countOf cat) (countOf cat′) (touchesIn cat) (touchesIn cat′) (fitsIn cat cells) (fitsIn cat′ cells) (A .rows)
+        touches-same (fits-same cells) T s h
 
     -- ---- the padded row
 
@@ -133,7 +137,8 @@ module _ (cat : Catalogue) (xs cs : List ℕ) (A : Agree cat xs cs) where
   named-same : (key : ℕ) → named cat′ key ≡ named cat key
   unfolding named missing beyond
   named-same key =
-      rw (any-ext (cat .n) (λ t. ltb (countOf cat′ t) (rowOf bitsPerRow key t)) (λ t. ltb (countOf cat t) (rowOf bitsPerRow key t)) (λ t l. rw (A .rows t l) refl)) refl
+      rw (any-ext (cat .n) (λ t. ltb (countOf cat′ t) (rowOf bitsPerRow key t)) (λ t. ltb (countOf cat t) (rowOf bitsPerRow key t))
+      (λ t l. rw (A .rows t l) refl)) refl
 
   there-same : (t : ℕ) → rowsThere cat′ t ≡ rowsThere cat t
   unfolding rowsThere

@@ -74,7 +74,8 @@ pub record AbiExact : Type 0 where
       → OpenHoldingCall catalogue cells keys left right t n words r ks ls rs ws → (r ≡ tooFewWords) ↔ FewToOpen holdingWords catalogue words
   pub open-holding-told : (catalogue cells keys left right : List ℕ) (t n : ℕ) (words : List ℕ) (r : ℕ) (ks ls rs ws : List ℕ)
       → OpenHoldingCall catalogue cells keys left right t n words r ks ls rs ws → (FewToOpen holdingWords catalogue words → ⊥)
-      → OpenTold (everyWith (record { table = t; row = n })) (openingFor (catalogueIn catalogue) cells (everyWith (record { table = t; row = n })) keys left right) keys left right words r ks ls rs ws
+      → OpenTold (everyWith (record { table = t; row = n }))
+      (openingFor (catalogueIn catalogue) cells (everyWith (record { table = t; row = n })) keys left right) keys left right words r ks ls rs ws
   pub next-few : (catalogue cells keys left right words : List ℕ) (b : ℕ) (row result : List ℕ) (r : ℕ) (ks ls rs ws w′ res : List ℕ)
       → NextCall catalogue cells keys left right words b row result r ks ls rs ws w′ res → (r ≡ tooFewWords) ↔ FewToCall recordWords catalogue words result
   pub next-told : (catalogue cells keys left right words : List ℕ) (b : ℕ) (row result : List ℕ) (r : ℕ) (ks ls rs ws w′ res : List ℕ)

@@ -1,5 +1,6 @@
 -- The demands on a stream, stated over any stream: `begin` is its open, `step` its call, and a list of `Given` is a way to call it, so that a fraud is a
--- stream that is shown not to meet them (proofs/Frauds). `asked` is what it is asked for: every set (document 01), or those that hold one row (#109). That the stream of document 01 meets them stands in proofs/Demanded. Assumes nothing.
+-- stream that is shown not to meet them (proofs/Frauds). `asked` is what it is asked for: every set (document 01), or those that hold one row (#109).
+-- That the stream of document 01 meets them stands in proofs/Demanded. Assumes nothing.
 use Prim.Native.Nat.{ℕ, _+_, _*_, _≤_, _<_}
 use mathlib.Core.Path.{_≡_}
 use mathlib.Core.Logic.{_⊎_, _↔_}

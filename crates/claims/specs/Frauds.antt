@@ -1,5 +1,5 @@
--- "Four frauds have to break on it." Each is a stream, or an open, that is shown not to meet the demand that document 01 names for it; the last three are
--- shown on any tables, and 'finds all sets in the first trial' on document 01's sample. Proved in proofs/Frauds. Assumes nothing.
+-- "Four frauds have to break on it." Each is a stream, or an open, that is shown not to meet the demand that document 01 names for it: on any tables, but
+-- for the one that finds all sets in the first trial, which is shown on document 01's sample. Proved in proofs/Frauds. Assumes nothing.
 use Prim.Native.Nat.{ℕ, _+_, _<_}
 use mathlib.Core.Path.{_≡_}
 use mathlib.Core.Bool.{cond}
