@@ -110,11 +110,27 @@ impl<'a> Plan<'a> {
         set.attributes |= self.schemes[table];
     }
 
+    /// The first row of a table, from 0, with a code at the attribute that lies at this place of a row. Where it lies first and does not fall, by halving.
+    fn first_coded(&self, table: usize, place: usize, code: u64, near: usize) -> Option<usize> {
+        let (width, cells) = (self.widths[table], self.table(table));
+        if place == 0 && self.rising >> table & 1 == 1 {
+            let row = self.first_row(table, code, near);
+            return (row < self.rows[table] && cells[row * width] == code).then_some(row);
+        }
+        cells.chunks_exact(width).position(|row| row[place] == code)
+    }
+
     /// The first row of a table, from 0, that has the merged codes at the shared attributes.
-    /// What is compared is worked out once for the whole table. Where the first column does not fall and is shared, the rows with its code are found by halving.
+    /// What is compared is worked out once for the whole table. Rows with one code lie together where the first column does not fall.
     fn first_fit(&self, set: &Merged, table: usize, near: usize) -> Option<usize> {
         let scheme = self.schemes[table];
         let mut shared = scheme & set.attributes;
+        let place_of = |attribute: u32| (scheme & ((1 << attribute) - 1)).count_ones() as usize;
+        if shared & (shared - 1) == 0 {
+            let attribute = shared.trailing_zeros();
+            let code = set.codes[attribute as usize];
+            return if code == 0 { None } else { self.first_coded(table, place_of(attribute), code, near) };
+        }
         let mut wanted = [(0, 0); 64];
         let mut number = 0;
         while shared != 0 {
@@ -123,12 +139,11 @@ impl<'a> Plan<'a> {
             if code == 0 {
                 return None;
             }
-            wanted[number] = ((scheme & ((1 << attribute) - 1)).count_ones() as usize, code);
+            wanted[number] = (place_of(attribute), code);
             number += 1;
             shared &= shared - 1;
         }
-        let width = self.widths[table];
-        let cells = self.table(table);
+        let (width, cells) = (self.widths[table], self.table(table));
         let (first, code) = wanted[0];
         let others = &wanted[1..number];
         let fits = |row: &[u64]| others.iter().all(|&(place, code)| row[place] == code);

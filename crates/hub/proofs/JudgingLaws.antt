@@ -29,7 +29,8 @@ use Rattle.rows.specs.Named.{named, Named}
 use Rattle.rows.proofs.WorldLaws.{world-symmetric, rows-total}
 use Rattle.rows.proofs.NamedLaws.{named-iff, named-valid, named-key, valid-named}
 use Rattle.store.specs.Good.{Key}
-use Rattle.sets.specs.Promises.{FirstIn, Comes}
+use Rattle.walks.specs.Firsts.{FirstIn}
+use Rattle.sets.specs.Promises.{Comes}
 use Rattle.hub.specs.declared.ListVerdict.the-variants.{Right, Missing, Refused}
 use Rattle.hub.specs.Verdicts.{right, entry, missing, listed, seek, spoilt, tried, triedOn, reached, verdict, Sound}
 use Rattle.hub.specs.Promises.{wordSet, wordSets, among, answerOf, outOf, refusedOr, checked}

@@ -16,7 +16,7 @@ use Rattle.disjunction.specs.Sets.{Maximal}
 use Rattle.rows.specs.World.{worldOf, setOf}
 use Rattle.rows.specs.Named.{named}
 use Rattle.store.specs.Store.{storeIn, mostRecords, linkOf}
-use Rattle.sets.specs.Promises.{FirstIn}
+use Rattle.walks.specs.Firsts.{FirstIn}
 use Rattle.store.specs.Good.{GoodStore}
 use Rattle.hub.specs.declared.ListVerdict.{ListVerdict}
 use Rattle.hub.specs.declared.ListVerdict.the-variants.{Right, Entry, Missing, Refused}

@@ -28,9 +28,9 @@ use Rattle.disjunction.proofs.Starting.{dropped-long, dropped-here, dropped-oth
 use Rattle.rows.specs.World.{worldOf, setOf, fitsIn}
 use Rattle.rows.specs.Named.{Named, There}
 use Rattle.rows.proofs.WorldLaws.{world-symmetric, row-room}
-use Rattle.sets.specs.Merged.{mergedLength, Merged, matches, Added, rowIn, only}
+use Rattle.walks.specs.Merged.{mergedLength, Merged, matches, Added, rowIn, only}
 use Rattle.sets.specs.Promises.{KeyFor, parts, ForDrop}
-use Rattle.sets.proofs.MatchLaws.{matches-none}
+use Rattle.walks.proofs.MatchLaws.{matches-none}
 use Rattle.sets.proofs.MergedLaws.{matches-fits, merged-none, merged-add, only-here, only-other, only-more}
 use Rattle.sets.proofs.RowTestLaws.{start-of}
 

@@ -29,7 +29,7 @@ use Rattle.rows.specs.World.{worldOf, setOf}
 use Rattle.rows.specs.Named.{There}
 use Rattle.rows.proofs.WorldLaws.{world-symmetric}
 use Rattle.rows.proofs.NamedLaws.{row-small}
-use Rattle.sets.specs.Merged.{Attributes}
+use Rattle.walks.specs.Merged.{Attributes}
 use Rattle.sets.specs.Promises.{KeyFor, joinsIn}
 use Rattle.sets.proofs.MergedLaws.{OneMore, attributes-add}
 use Rattle.sets.proofs.RowTestLaws.{near-mask}

@@ -1,10 +1,7 @@
-pub mod MatchLaws
-pub mod CursorLaws
 pub mod MergedLaws
 pub mod RowTestLaws
-pub mod PlaceLaws
 pub mod ClosedLaws
-pub mod RisingLaws
+pub mod LayoutLaws
 pub mod Rounds
 pub mod Dropping
 pub mod Joining

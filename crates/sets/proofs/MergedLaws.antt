@@ -21,8 +21,8 @@ use Rattle.tables.specs.Checks.{Lawful}
 use Rattle.disjunction.specs.Sets.{at}
 use Rattle.rows.specs.World.{fitsIn}
 use Rattle.rows.proofs.WorldLaws.{fit-iff}
-use Rattle.sets.specs.Merged.{mergedLength, Same, Under, Attributes, Merged, matches, joint, Added, only}
-use Rattle.sets.proofs.MatchLaws.{matches-iff}
+use Rattle.walks.specs.Merged.{mergedLength, Same, Under, Attributes, Merged, matches, joint, Added, only}
+use Rattle.walks.proofs.MatchLaws.{matches-iff}
 
 -- The attributes that a row shares with a set are its own.
 pub shared-split : (scheme mask a : ℕ) → bitOf (bitAnd scheme mask) a ≡ true → (bitOf scheme a ≡ true) × (bitOf mask a ≡ true)

@@ -1,11 +1,12 @@
 -- A round over the tables, and the rounds of an extension: what is left to do from here, with the tests made, is the whole extension. Assumes nothing.
-use Prim.Native.Nat.{ℕ, suc, _+_, _-_, _*_, _^_, _≤_, _<_}
+use Prim.Native.Nat.{ℕ, zero, suc, _+_, _-_, _*_, _^_, _≤_, _<_}
 use mathlib.Core.Path.{_≡_, refl, sym, ap, ap₂, _∙_}
 use mathlib.Core.Bool.{false}
 use mathlib.Core.List.{List}
 use native.Mathlib.Omega.{arith}
 use native.Mathlib.Nat.{mul-le-mul, zero-add}
 use native.Mathlib.Decide.{decLt}
+use native.Mathlib.Numerals.{add-one}
 use lib.ListN.{length, getD}
 use lib.Seq.{getD-set-other}
 use Rattle.keys.specs.Keys.{bitsPerRow, withRow, keyOf}
@@ -27,9 +28,14 @@ use Rattle.rows.specs.World.{worldOf, setOf}
 use Rattle.rows.specs.Named.{Named, There}
 use Rattle.rows.proofs.WorldLaws.{rows-before, rows-total}
 use Rattle.rows.proofs.NamedLaws.{named-valid, named-size, named-with, named-key, row-small}
-use Rattle.sets.specs.Merged.{Merged, Added}
-use Rattle.sets.specs.Promises.{FirstIn, tested, Comes}
+use Rattle.walks.specs.Merged.{Merged, Added}
+use Rattle.walks.specs.Firsts.{FirstIn, NoneIn}
+use Rattle.sets.specs.Promises.{tested, Comes}
 use Rattle.sets.proofs.MergedLaws.{OneMore, merged-add}
+use Rattle.walks.proofs.FirstLaws.{first-all}
+use Rattle.sets.proofs.ClosedLaws.{Round}
+use Rattle.words.specs.Words.{LowestBit}
+use Rattle.words.proofs.WordLaws.{zero-bit}
 
 -- ---- a round
 
@@ -87,9 +93,25 @@ module _ (cat : Catalogue) (cells : List ℕ) where
           walk-hit (rowTest W T) (rows W) none (rowsBefore cat t + i) (place-inside t i l b) (clear-more t c i l (f .within) p (f .before)) (rw here (f .found b))
           ∙ ap₂ (λ (x : ℕ) (y : Place). hit x y) n here
 
+    -- Where no table below t has a row that may be added.
+    pub passed-below : (t : ℕ) → t ≤ cat .n → ((u : ℕ) → u < t → NoneIn (countOf cat u) (λ q. rowTest W T (record { table = u; row = suc q }))) → Passed cat cells T t (rowsBefore cat t)
+    unfolding rowsBefore
+    passed-below zero b h = passed-none
+    passed-below (suc t) b h =
+        rw (add-one t) at (passed-next t (rowsBefore cat t) (countOf cat t) (omega arith) (passed-below t (omega arith) (λ u l. h u (omega arith)))
+        (first-all (countOf cat t) _ (h t (omega arith))) (omega arith) (rowsBefore cat (t + 1)) (rows-next cat t))
+
     pub round-miss : (c : ℕ) → Passed cat cells T (cat .n) c → walk (rowTest W T) (rows W) ≡ miss c
     round-miss c p =
         walk-miss (rowTest W T) (rows W) none (λ j h. p .clear j (rw (rows-total cat cells) at h)) ∙ ap (λ (x : ℕ). miss x) (rows-total cat cells ∙ sym (p .count))
+
+-- The tables before the lowest that is left are passed, and all are where none is left.
+module _ (cat : Catalogue) (cells : List ℕ) (key live rest : ℕ) (R : Round cat cells key live rest) where
+  pub round-passed : (w t : ℕ) → t < cat .n → LowestBit w rest t → Passed cat cells (setOf cat key) t (rowsBefore cat t)
+  round-passed w t b l = passed-below cat cells (setOf cat key) t (omega arith) (λ u d. R .clear u (omega (arith, d)) (l .below u d))
+
+  pub round-over : rest ≡ 0 → Passed cat cells (setOf cat key) (cat .n) (rowsBefore cat (cat .n))
+  round-over z = passed-below cat cells (setOf cat key) (cat .n) (omega arith) (λ u d. R .clear u d (rw z (zero-bit u)))
 
 -- ---- the rounds
 

@@ -1,63 +1,55 @@
 -- What the functions of this crate promise: each answer by the rule of document 01 ('The stream's own rule'), as crate disjunction renders it, on the
 -- tables of crate rows. Nothing is asked of the rows of a set together, so that damaged records are determined too. Assumes nothing.
-use Prim.Native.Nat.{ℕ, suc, _*_, _^_, _≤_, _<_}
+use Prim.Native.Nat.{ℕ, suc, _*_, _^_, _<_}
 use mathlib.Core.Path.{_≡_}
-use mathlib.Core.Bool.{Bool, true, false, not, _&&_, _||_}
+use mathlib.Core.Bool.{Bool, true, not, _&&_, _||_}
 use mathlib.Core.List.{List, []}
 use lib.Count.{ones}
-use lib.ListN.{length}
+use lib.ListN.{length, getD}
 use lib.Bits.{bitAnd}
 use lib.Dec.{eqb}
 use Rattle.words.specs.Words.{bitOf}
 use Rattle.keys.specs.Keys.{bitsPerRow, keyOf}
 use Rattle.tables.specs.declared.Catalogue.{Catalogue}
 use Rattle.tables.specs.Sizes.{mostCells}
-use Rattle.tables.specs.Catalogues.{schemeOf, countOf, firstCell, FirstCells}
+use Rattle.tables.specs.Catalogues.{schemeOf, countOf, firstCell, rowsBefore, total}
 use Rattle.tables.specs.Checks.{Lawful}
 use Rattle.disjunction.specs.Sets.{Tables, at}
 use Rattle.disjunction.specs.Rule.{Place, Grown, rowIn, member, joins, rowTest}
 use Rattle.rows.specs.World.{worldOf, setOf}
 use Rattle.rows.specs.Named.{Named}
 use Rattle.sets.specs.declared.Layout.{Layout}
-use Rattle.sets.specs.Merged.{Attributes, Merged, only, Rising}
+use Rattle.walks.specs.Merged.{Attributes, Merged, only, Rising}
 
 -- Every table of the mask has a first column that does not fall. Of the others nothing is said.
 abbrev pub RisingIn : Catalogue → List ℕ → ℕ → Type 0
 RisingIn cat cells mask = (t : ℕ) → t < cat .n → bitOf mask t ≡ true → Rising cells (firstCell cat t) (ones (schemeOf cat t)) (countOf cat t)
 
--- What a trial goes by: where the cells of each table begin, and tables whose first column does not fall.
+-- What a trial goes by: of each table where its cells begin, how many rows lie before it and how wide its rows are; how many rows there are; and tables
+-- whose first column does not fall.
 pub record LaidOut (cat : Catalogue) (cells : List ℕ) (l : Layout) : Type 0 where
-  pub begins : FirstCells cat (l .firsts)
+  pub begins : (t : ℕ) → t < cat .n → getD (l .firsts) t 0 ≡ firstCell cat t
+  pub before : (t : ℕ) → t < cat .n → getD (l .before) t 0 ≡ rowsBefore cat t
+  pub wide : (t : ℕ) → t < cat .n → getD (l .widths) t 0 ≡ ones (schemeOf cat t)
+  pub all : l .total ≡ total cat
   pub rising : RisingIn cat cells (l .rising)
-
--- i is the first of the numbers below k that passes; k where none does.
-pub record FirstIn (k : ℕ) (ok : ℕ → Bool) (i : ℕ) : Type 0 where
-  pub within : i ≤ k
-  pub before : (j : ℕ) → j < i → ok j ≡ false
-  pub found : i < k → ok i ≡ true
-
--- None of the numbers below k passes.
-abbrev pub NoneIn : ℕ → (ℕ → Bool) → Type 0
-NoneIn k ok = (i : ℕ) → i < k → ok i ≡ false
 
 -- The row test of row i + 1 of table t, on the set of a key.
 abbrev pub tested : Catalogue → List ℕ → ℕ → ℕ → ℕ → Bool
 tested cat cells key t i = rowTest (worldOf cat cells) (setOf cat key) (record { table = t; row = suc i })
 
--- These are the scheme and the first cell of table t, and the merged row is that of the key's set. If the table is closed, the row test admits none of its
--- first `count` rows.
-pub record TableOf (cat : Catalogue) (cells : List ℕ) (key t scheme base count attrs closed : ℕ) (codes : List ℕ) : Type 0 where
+-- These are the scheme and the first cell of table t, and the merged row is that of the key's set.
+pub record TableOf (cat : Catalogue) (cells : List ℕ) (key t scheme base attrs : ℕ) (codes : List ℕ) : Type 0 where
   pub lawful : Lawful cat (length cells)
   pub table : t < cat .n
   pub has-scheme : scheme ≡ schemeOf cat t
   pub has-base : base ≡ firstCell cat t
   pub merged : Merged cat cells (at (setOf cat key)) codes attrs
-  pub none : bitOf closed t ≡ true → NoneIn count (tested cat cells key t)
 
--- Table u is closed, after table t of this scheme was walked without a fit to a set with the attributes `attrs`: it was before, or it is t, which shares
--- one of them.
-unfoldable pub closes : ℕ → ℕ → ℕ → ℕ → ℕ → Bool
-closes scheme t attrs closed u = bitOf closed u || (not (eqb (bitAnd scheme attrs) 0) && eqb u t)
+-- Table u is still live, after table t of this scheme was walked without a fit to a set with the attributes `attrs`: it was before, and it is not t, or t
+-- shares none of them.
+unfoldable pub stays : ℕ → ℕ → ℕ → ℕ → ℕ → Bool
+stays scheme t attrs live u = bitOf live u && (eqb (bitAnd scheme attrs) 0 || not (eqb u t))
 
 -- `key` is the key of the set T.
 pub record KeyFor (cat : Catalogue) (T : List ℕ) (key : ℕ) : Type 0 where

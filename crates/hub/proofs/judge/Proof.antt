@@ -6,7 +6,7 @@ use mathlib.Core.Path.{_≡_, sym, ap, subst, _∙_}
 use mathlib.Core.List.{List}
 use lib.ListN.{length}
 use Rattle.rows.specs.World.{worldOf}
-use Rattle.sets.specs.Promises.{FirstIn}
+use Rattle.walks.specs.Firsts.{FirstIn}
 use Rattle.hub.specs.Verdicts.{spoilt, verdict}
 use Rattle.hub.specs.Promises.{wordSets, answerOf}
 use Rattle.hub.proofs.TreeLaws.{linked-start}

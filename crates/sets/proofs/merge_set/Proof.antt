@@ -8,7 +8,7 @@ use Rattle.keys.specs.Keys.{bitsPerRow}
 use Rattle.keys.proofs.SetLaws.{in-at, in-length}
 use Rattle.rows.specs.World.{setOf}
 use Rattle.rows.proofs.WorldLaws.{row-room}
-use Rattle.sets.specs.Merged.{Merged}
+use Rattle.walks.specs.Merged.{Merged}
 use Rattle.sets.proofs.MergedLaws.{merged-none, merged-same, merged-add, upTo, up-out, up-row, up-skip, up-all}
 use Rattle.sets.proofs.RowTestLaws.{start-of}
 use Rattle.sets.proofs.merge_set.Statement.{statement}
@@ -26,26 +26,36 @@ loop-holds c = (omega arith, merged-none _ _ _ _ (c .before .pre .3) (λ u. up-o
 row-of-requires : tie.Need-row-of-requires Inv-loop μ-loop
 row-of-requires c κs = search needs
 
+element-copy-out-w : tie.Need-element-copy-out-w Inv-loop μ-loop
+element-copy-out-w c = search needs
+
+cast-w : tie.Need-cast-w Inv-loop μ-loop
+cast-w c = search needs
+
+mul-base : tie.Need-mul-base Inv-loop μ-loop
+mul-base c = search needs
+
+element-copy-out-base : tie.Need-element-copy-out-base Inv-loop μ-loop
+element-copy-out-base c = search needs
+
+cast-base : tie.Need-cast-base Inv-loop μ-loop
+cast-base c = search needs
+
 mul-merge-add : tie.Need-mul-merge-add Inv-loop μ-loop
 mul-merge-add c = search needs
 
 element-copy-out-merge-add : tie.Need-element-copy-out-merge-add Inv-loop μ-loop
 element-copy-out-merge-add c = search needs
 
-mul-merge-add-2 : tie.Need-mul-merge-add-2 Inv-loop μ-loop
-mul-merge-add-2 c = search needs
-
-element-copy-out-merge-add-2 : tie.Need-element-copy-out-merge-add-2 Inv-loop μ-loop
-element-copy-out-merge-add-2 c = search needs
-
 merge-add-requires : tie.Need-merge-add-requires Inv-loop μ-loop
 merge-add-requires c κs =
-    let i = c .before .before .before in
+    let i = c .before .before .before .before in
     let l = i .before .before .before in
     let s = l .before .before in
     let b = i .before .before .loop-test .taken in (
+      s .pre .1 .wide _ b,
       omega (arith, i .if1 .taken),
-      rw (start-of (s .args .t1) (l .loop .u) _ _ (s .pre .1 .begins .each _ b))
+      rw (start-of (s .args .t1) (l .loop .u) _ _ (s .pre .1 .begins _ b))
           (row-room _ _ (s .pre .0) _ _ (record { table = b; low = omega (arith, i .if1 .taken); high = rw (i .before .row-of .ensures) (s .pre .2 .rows _ b) })),
       l .loop .inv .1 .long,
     )
@@ -65,9 +75,9 @@ loop-again c =
       omega (arith, b),
       ⊎-elim
           (λ w.
-          rw (w .5, w .6)
+          rw (w .6, w .7)
           (merged-add _ _ _ (s .pre .0) _ _ _ _ b (up-row _ _ _ (omega (arith, w .0 .taken)) own) _ _ _ _ (l .loop .inv .1)
-          (rw (← start-of (s .args .t1) (l .loop .u) _ _ (s .pre .1 .begins .each _ b)) (w .4 .ensures))))
+          (rw (← start-of (s .args .t1) (l .loop .u) _ _ (s .pre .1 .begins _ b)) (w .5 .ensures))))
           (λ w. rw (w .1, w .2) (merged-same _ _ _ _ _ _ (λ v. up-skip _ _ v (own ∙ w .0 .left)) (l .loop .inv .1)))
           (c .if1 .came),
     )
@@ -86,10 +96,13 @@ merge-set-spec =
     μ-loop
     loop-holds
     row-of-requires
+    element-copy-out-w
+    cast-w
+    mul-base
+    element-copy-out-base
+    cast-base
     mul-merge-add
     element-copy-out-merge-add
-    mul-merge-add-2
-    element-copy-out-merge-add-2
     merge-add-requires
     add-u
     loop-less

@@ -15,13 +15,13 @@ use Rattle.sets.proofs.parted.Statement.{statement}
 use Rattle.sets.proofs.parted.Tie as tie
 
 -- the row's cells are there
-room : (c : tie.After-width)
-    → (c .before .before .before .before .before .before .before .args .base + (c .before .before .before .row-of .result - 1) * c .width .result)
-    + ones (c .before .before .before .before .before .before .before .args .scheme) ≤ length (c .before .before .before .before .before .before .before .args .cells .now)
+room : (c : tie.Else3)
+    → (c .before .before .before .before .before .before .args .base + (c .before .before .row-of .result - 1) * c .before .before .before .before .before .before .args .w)
+    + ones (c .before .before .before .before .before .before .args .scheme) ≤ length (c .before .before .before .before .before .before .args .cells .now)
 room c =
-    let q = c .before .before .before in
-    rw (c .width .ensures, q .row-of .ensures)
-    (q .before .before .before .before .pre .1 (omega (arith, c .before .before .if2 .left, q .row-of .ensures)))
+    let q = c .before .before in
+    let s = q .before .before .before .before in
+    rw (s .pre .1, q .row-of .ensures) (s .pre .2 (omega (arith, c .before .if2 .left, q .row-of .ensures)))
 
 returns : tie.Need-returns
 returns c cat d =
@@ -45,9 +45,6 @@ returns-3 c cat d =
 sub-start : tie.Need-sub-start
 sub-start c = search needs
 
-width-requires : tie.Need-width-requires
-width-requires c κs = search needs
-
 mul-start : tie.Need-mul-start
 mul-start c = omega (arith, room c)
 
@@ -60,9 +57,9 @@ row-fits-requires c κs = (room c, shared-under _ _)
 returns-4 : tie.Need-returns-4
 returns-4 c cat d =
     let w = c .before in
-    let q = w .before .before .before in
+    let q = w .before .before in
     ap not (c .row-fits .ensures)
-    ∙ sym (parts-answer cat _ _ _ _ _ _ _ _ d _ _ (q .before .if1 .left) (q .row-of .ensures) (w .before .before .if2 .left) (w .width .ensures))
+    ∙ sym (parts-answer cat _ _ _ _ _ _ _ _ d _ _ (q .before .if1 .left) (q .row-of .ensures) (w .before .if2 .left) (q .before .before .before .before .pre .1))
 
 pub parted-spec : {M : Type 1} → statement M
 parted-spec =
@@ -73,7 +70,6 @@ parted-spec =
     returns-2
     returns-3
     sub-start
-    width-requires
     mul-start
     add-start
     row-fits-requires

@@ -8,38 +8,38 @@ use lib.ListN.{length, getD}
 use lib.Count.{ones, ones-le}
 use Rattle.tables.specs.Catalogues.{schemeOf, countOf, firstCell}
 use Rattle.tables.proofs.CatalogueLaws.{one-shl, table-ends}
-use Rattle.sets.specs.Merged.{mergedLength}
+use Rattle.walks.specs.Merged.{mergedLength}
 use Rattle.sets.specs.Promises.{RisingIn}
-use Rattle.sets.proofs.RisingLaws.{scheme-narrow, some-cell, rising-none, rising-more}
+use Rattle.sets.proofs.LayoutLaws.{scheme-narrow, some-cell, rising-none, rising-more}
 use Rattle.sets.proofs.rising_tables.Statement.{statement}
 use Rattle.sets.proofs.rising_tables.Tie as tie
 
 abbrev Inv-loop : tie.InvT-loop
-Inv-loop cells cat firsts n rising₀ t₀ rising t = RisingIn cat cells rising
+Inv-loop cells cat layout n rising₀ t₀ rising t = RisingIn cat cells rising
 
 abbrev μ-loop : tie.MeasureT-loop
-μ-loop cells cat firsts n rising₀ t₀ rising t = n - t
+μ-loop cells cat layout n rising₀ t₀ rising t = n - t
 
 loop-holds : tie.Need-loop-holds Inv-loop μ-loop
 loop-holds c = rising-none _ _
 
-mul-width : tie.Need-mul-width Inv-loop μ-loop
-mul-width c = search needs
+mul-first : tie.Need-mul-first Inv-loop μ-loop
+mul-first c = search needs
 
-element-copy-out-width : tie.Need-element-copy-out-width Inv-loop μ-loop
-element-copy-out-width c = search needs
+element-copy-out-first : tie.Need-element-copy-out-first Inv-loop μ-loop
+element-copy-out-first c = search needs
 
-width-requires : tie.Need-width-requires Inv-loop μ-loop
-width-requires c κs = search needs
+cast-first : tie.Need-cast-first Inv-loop μ-loop
+cast-first c = search needs
+
+element-copy-out-w : tie.Need-element-copy-out-w Inv-loop μ-loop
+element-copy-out-w c = search needs
+
+cast-w : tie.Need-cast-w Inv-loop μ-loop
+cast-w c = search needs
 
 mul-rises : tie.Need-mul-rises Inv-loop μ-loop
 mul-rises c = search needs
-
-array-read-rises : tie.Need-array-read-rises Inv-loop μ-loop
-array-read-rises c = search needs
-
-mul-rises-2 : tie.Need-mul-rises-2 Inv-loop μ-loop
-mul-rises-2 c = search needs
 
 element-copy-out-rises : tie.Need-element-copy-out-rises Inv-loop μ-loop
 element-copy-out-rises c = search needs
@@ -49,12 +49,11 @@ cast-rises c = search needs
 
 rises-requires : tie.Need-rises-requires Inv-loop μ-loop
 rises-requires c κs =
-    let w = c .before in
-    let o = w .before .before in
+    let o = c .before .before .before in
     let s = o .before .before .before in
     let b = o .loop-test .taken in
     let n = scheme-narrow (s .args .t1) _ (s .pre .0) _ b in
-    rw (w .width .ensures, s .pre .1 .each _ b) (
+    rw (s .pre .1 .wide _ b, s .pre .1 .begins _ b) (
       ones-le mergedLength _ n,
       omega (arith, table-ends (s .args .t1) _ (s .pre .0) _ b, s .pre .0 .room, some-cell (schemeOf (s .args .t1) (o .before .loop .t)) (s .pre .0 .some-scheme _ b) n),
     )
@@ -71,8 +70,7 @@ loop-less c = search needs
 loop-again : tie.Need-loop-again Inv-loop μ-loop
 loop-again c =
     let r = c .before in
-    let w = r .before .before in
-    let o = w .before .before in
+    let o = r .before .before .before .before in
     let l = o .before in
     let s = l .before .before in
     let b = o .loop-test .taken in
@@ -80,7 +78,7 @@ loop-again c =
     (λ x.
     rw (x .1)
     (rising-more (s .args .t1) (s .args .cells .now) (l .loop .t) _ _ (l .loop .inv) (one-shl (l .loop .t) (omega (arith, b, s .pre .0 .tables)))
-    (rw (w .width .ensures, s .pre .1 .each _ b) at (r .rises .ensures (x .0 .taken)))))
+    (rw (s .pre .1 .wide _ b, s .pre .1 .begins _ b) at (r .rises .ensures (x .0 .taken)))))
     (λ x. rw (x .1) (l .loop .inv))
     (c .if1 .came)
 
@@ -94,12 +92,12 @@ rising-tables-spec =
     Inv-loop
     μ-loop
     loop-holds
-    mul-width
-    element-copy-out-width
-    width-requires
+    mul-first
+    element-copy-out-first
+    cast-first
+    element-copy-out-w
+    cast-w
     mul-rises
-    array-read-rises
-    mul-rises-2
     element-copy-out-rises
     cast-rises
     rises-requires
