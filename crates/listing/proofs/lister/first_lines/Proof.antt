@@ -1,7 +1,6 @@
 -- `listing::lister::first_lines` meets its contract: longer input, a refused image and a good one each have their text. Assumes nothing.
 use native.Mathlib.Omega.{arith}
-use Prim.Native.Nat.{ℕ, _+_, _-_, _*_, _^_, _≤_, _<_}
-use mathlib.Core.Path.{_≡_, refl, sym, ap, _∙_}
+use mathlib.Core.Path.{sym, ap, _∙_}
 use lib.ListN.{length}
 use Rattle.tables.specs.Sizes.{mostCells}
 use Rattle.image.proofs.RoundTrip.{found-good, load-lawful}
@@ -81,7 +80,10 @@ returns-3 : tie.Need-returns-3
 returns-3 c =
     let s = c .before .before .before .before .before .before .before .before .before .before .before .before .before .before .before .before .before .before .before in
     let l = c .before .before .before .before .before .before .before .before .before .before .load in
-    rw (listing-short (s .args .input .now) (omega (arith, c .before .before .before .before .before .before .before .before .before .before .before .before .if1 .left)), image-refused (l .result) (s .pre .0) (l .ensures) _ _ (c .before .before .before .before .before .before .verdict .given .1)) (ended-gives (c .ended2 .result) _ _ _ _ _ _ (c .ended2 .ensures .0) (c .ended2 .ensures .1) (omega (arith, refused-short (c .before .before .before .before .before .before .verdict .given .0 .0) (c .before .before .before .before .before .before .verdict .given .0 .1 .0), s .pre .4)) (c .before .before .before .put-refused .ensures))
+    let v = c .before .before .before .before .before .before .verdict .given in
+    rw (listing-short (s .args .input .now) (omega (arith, c .before .before .before .before .before .before .before .before .before .before .before .before .if1 .left)), image-refused (l .result) (s .pre .0) (l .ensures) _ (v .1))
+    (ended-gives (c .ended2 .result) _ _ _ _ _ _ (c .ended2 .ensures .0) (c .ended2 .ensures .1)
+    (omega (arith, refused-short (v .0 .0 .refusal) (v .0 .0 .place), s .pre .4)) (c .before .before .before .put-refused .ensures))
 
 pub first-lines-spec : {M : Type 1} → statement M
 first-lines-spec =
