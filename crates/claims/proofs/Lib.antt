@@ -21,3 +21,4 @@ pub mod RowsExactly
 pub mod WriteExactly
 pub mod Imaged
 pub mod ListChecked
+pub mod ListSample

@@ -1,5 +1,5 @@
 //! Times the library beside the same rule in Rust, as worded and with shortcuts, in one run: ratios, never seconds alone.
-//! Use: peer-bench [repeats], or peer-bench sql for the chain's tables and their nested full outer joins as SQL.
+//! Use: peer-bench [repeats], peer-bench lists for the checks of lists alone, or peer-bench sql for the chain's tables and their nested full outer joins as SQL.
 #![forbid(unsafe_code)]
 use peer::image::{self, Catalogue};
 use peer::make::{self, Tables};
@@ -247,7 +247,10 @@ fn main() {
     if word.as_deref() == Some("sql") {
         return print!("{}", sql(&chain()));
     }
-    let repeats = word.map_or(5, |word| word.parse().expect("use: peer-bench [repeats] | sql"));
+    if word.as_deref() == Some("lists") {
+        return lists(7);
+    }
+    let repeats = word.map_or(5, |word| word.parse().expect("use: peer-bench [repeats] | lists | sql"));
     assert!(!library::MOCK, "without the library there is nothing to time");
     println!("drains, the best of {repeats}:");
     for (name, tables) in cases() {
