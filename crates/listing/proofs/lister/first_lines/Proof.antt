@@ -1,7 +1,6 @@
 -- `listing::lister::first_lines` meets its contract: longer input, a refused image and a good one each have their text. Assumes nothing.
 use native.Mathlib.Omega.{arith}
-use Prim.Native.Nat.{ℕ, _+_, _-_, _*_, _^_, _≤_, _<_}
-use mathlib.Core.Path.{_≡_, refl, sym, ap, _∙_}
+use mathlib.Core.Path.{sym, ap, _∙_}
 use lib.ListN.{length}
 use Rattle.tables.specs.Sizes.{mostCells}
 use Rattle.image.proofs.RoundTrip.{found-good, load-lawful}
