@@ -109,10 +109,10 @@ pub fn check(image: &[u8]) -> u64
 }
 
 // Calls `abi::harbour_load`.
-pub fn load_words(image: &[u8], cells: &mut [u64], catalogue: &mut [u64]) -> u64
-    ensures { λ r. ⌜ LoadCall (now (image .entry)) (now (cells .entry)) (now (catalogue .entry)) r (now (cells .exit)) (now (catalogue .exit)) ⌝ }
+pub fn load_words(image: &[u8], cells: &mut [u64], catalogue: &mut [u64], looked: &mut [u64]) -> u64
+    ensures { λ r. ⌜ LoadCall (now (image .entry)) (now (cells .entry)) (now (catalogue .entry)) (now (looked .entry)) r (now (cells .exit)) (now (catalogue .exit)) (now (looked .exit)) ⌝ }
 {
-    abi::harbour_load(image, cells, catalogue)
+    abi::harbour_load(image, cells, catalogue, looked)
 }
 
 // Calls `abi::harbour_write`.
