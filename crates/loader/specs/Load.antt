@@ -1,5 +1,6 @@
--- "Load reports the first fault in reading order: a number's own faults (1, 2; with request #107 also 17) as it is read, then its meaning; at a row count 6, then 8;
--- 7 after the row's last cell." Refusals stand in the order in which they are met. Assumes nothing.
+-- "Load reports the first fault in reading order: a number's own faults (1, 2) as it is read, then its meaning; at a row count 6, then 8;
+-- 7 after the row's last cell." Refusals stand in the order in which they are met; request #107 puts 17
+-- where 2 was. Assumes nothing.
 use Prim.Native.Nat.{ℕ, zero, suc, _+_, _*_, _≤_}
 use mathlib.Core.Path.{_≡_}
 use mathlib.Core.List.{List, [], _++_}
