@@ -80,7 +80,10 @@ returns-3 : tie.Need-returns-3
 returns-3 c =
     let s = c .before .before .before .before .before .before .before .before .before .before .before .before .before .before .before .before .before .before .before in
     let l = c .before .before .before .before .before .before .before .before .before .before .load in
-    rw (listing-short (s .args .input .now) (omega (arith, c .before .before .before .before .before .before .before .before .before .before .before .before .if1 .left)), image-refused (l .result) (s .pre .0) (l .ensures) _ _ (c .before .before .before .before .before .before .verdict .given .1)) (ended-gives (c .ended2 .result) _ _ _ _ _ _ (c .ended2 .ensures .0) (c .ended2 .ensures .1) (omega (arith, refused-short (c .before .before .before .before .before .before .verdict .given .0 .0) (c .before .before .before .before .before .before .verdict .given .0 .1 .0), s .pre .4)) (c .before .before .before .put-refused .ensures))
+    let v = c .before .before .before .before .before .before .verdict .given in
+    rw (listing-short (s .args .input .now) (omega (arith, c .before .before .before .before .before .before .before .before .before .before .before .before .if1 .left)), image-refused (l .result) (s .pre .0) (l .ensures) _ (v .1))
+    (ended-gives (c .ended2 .result) _ _ _ _ _ _ (c .ended2 .ensures .0) (c .ended2 .ensures .1)
+    (omega (arith, refused-short (v .0 .0 .refusal) (v .0 .0 .place), s .pre .4)) (c .before .before .before .put-refused .ensures))
 
 pub first-lines-spec : {M : Type 1} → statement M
 first-lines-spec =
