@@ -50,7 +50,7 @@ fn judged(catalogue: &Catalogue, cells: &[u64], listed: &[u64], maximal: &HashSe
     }
     let trials = listed.iter().flat_map(|&key| (0..tables.total() as usize).map(move |place| (key, place)));
     let missing = if listed.is_empty() {
-        tables.first()
+        tables.first_extended()
     } else {
         trials.map(|(key, place)| tables.reached(key, place)).find(|key| !seen.contains(key))
     };

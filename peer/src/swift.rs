@@ -4,8 +4,8 @@ use crate::image::{check_catalogue, Catalogue};
 use crate::refusal::Refusal;
 use crate::rule::{misfit, search, set_of, Answer, Counts, Ending, Outcome, Record, Stop, Store};
 
-/// What is worked out once in a call: where tables begin, how wide they are, which tables touch.
-/// The row walk reads nothing else of the catalogue.
+/// What is worked out once in a call: where tables begin, how wide they are, which tables touch, how many rows lie before each table and up to its end,
+/// and which tables have a first column that does not fall. The row walk reads nothing else of the catalogue.
 struct Plan<'a> {
     cells: &'a [u64],
     n: usize,
@@ -16,6 +16,8 @@ struct Plan<'a> {
     starts: [usize; 8],
     widths: [usize; 8],
     touching: [u8; 8],
+    before: [u64; 9],
+    rising: u8,
 }
 
 /// A set under way: its row numbers, its tables as a mask, and its merged row.
@@ -28,12 +30,14 @@ struct Merged {
 }
 
 impl<'a> Plan<'a> {
-    /// Checks the catalogue as open does and works the rest out.
-    fn checked(catalogue: &Catalogue, cells: &'a [u64]) -> Result<Plan<'a>, Refusal> {
+    /// Checks the catalogue as open does and works the rest out, for at most so many trials.
+    /// Columns are looked at only where there are trials enough to pay for it.
+    fn checked(catalogue: &Catalogue, cells: &'a [u64], trials: u64) -> Result<Plan<'a>, Refusal> {
         check_catalogue(catalogue, cells.len())?;
         let n = catalogue.n as usize;
         let mut plan = Plan {
             cells, n, m: catalogue.m as usize, total: 0, schemes: catalogue.schemes, rows: [0; 8], starts: [0; 8], widths: [0; 8], touching: [0; 8],
+            before: [0; 9], rising: 0,
         };
         let mut place = 0;
         for table in 0..n {
@@ -42,11 +46,48 @@ impl<'a> Plan<'a> {
             plan.starts[table] = place;
             place += catalogue.size(table);
             plan.total += plan.rows[table] as u64;
+            plan.before[table + 1] = plan.total;
             for other in 0..n {
                 plan.touching[table] |= u8::from(plan.schemes[table] & plan.schemes[other] != 0) << other;
             }
         }
+        if trials >= 16 && trials >= plan.total / 16 {
+            plan.rising = (0..n).filter(|&table| plan.rises(table)).fold(0, |mask, table| mask | 1 << table);
+        }
         Ok(plan)
+    }
+
+    /// A table's cells.
+    fn table(&self, table: usize) -> &[u64] {
+        &self.cells[self.starts[table]..self.starts[table] + self.widths[table] * self.rows[table]]
+    }
+
+    /// Does a table's first column not fall?
+    fn rises(&self, table: usize) -> bool {
+        let mut last = 0;
+        self.table(table).iter().step_by(self.widths[table]).all(|&code| {
+            let higher = last <= code;
+            last = code;
+            higher
+        })
+    }
+
+    /// The first row of a table, from 0, whose code in a first column that does not fall is not below this one. `near` is looked at before it is halved.
+    fn first_row(&self, table: usize, code: u64, near: usize) -> usize {
+        let (width, cells) = (self.widths[table], self.table(table));
+        let below = |row: usize| cells[row * width] < code;
+        if near < self.rows[table] && !below(near) && (near == 0 || below(near - 1)) {
+            return near;
+        }
+        let (mut from, mut left) = (0, self.rows[table]);
+        while left != 0 {
+            let half = left - left / 2;
+            if below(from + half - 1) {
+                from += half;
+            }
+            left /= 2;
+        }
+        from
     }
 
     /// The cells of a row, numbered from 1.
@@ -70,8 +111,8 @@ impl<'a> Plan<'a> {
     }
 
     /// The first row of a table, from 0, that has the merged codes at the shared attributes.
-    /// What is compared is worked out once for the whole table.
-    fn first_fit(&self, set: &Merged, table: usize) -> Option<usize> {
+    /// What is compared is worked out once for the whole table. Where the first column does not fall and is shared, the rows with its code are found by halving.
+    fn first_fit(&self, set: &Merged, table: usize, near: usize) -> Option<usize> {
         let scheme = self.schemes[table];
         let mut shared = scheme & set.attributes;
         let mut wanted = [(0, 0); 64];
@@ -87,30 +128,38 @@ impl<'a> Plan<'a> {
             shared &= shared - 1;
         }
         let width = self.widths[table];
-        let cells = &self.cells[self.starts[table]..self.starts[table] + width * self.rows[table]];
+        let cells = self.table(table);
         let (first, code) = wanted[0];
         let others = &wanted[1..number];
-        cells.chunks_exact(width).position(|row| row[first] == code && others.iter().all(|&(place, code)| row[place] == code))
+        let fits = |row: &[u64]| others.iter().all(|&(place, code)| row[place] == code);
+        if first == 0 && self.rising >> table & 1 == 1 {
+            let from = self.first_row(table, code, near);
+            let rows = cells[from * width..].chunks_exact(width);
+            return rows.take_while(|row| row[0] == code).position(fits).map(|row| from + row);
+        }
+        cells.chunks_exact(width).position(|row| row[first] == code && fits(row))
     }
 
     /// Extension. A table that was walked without a fit has none later either, so it is walked once.
-    /// Rows that are not looked at are counted all the same.
-    fn extend(&self, set: &mut Merged) -> u64 {
+    /// Rows that are not looked at are counted all the same, by how many lie before the table. `near` is the row to look at first in each.
+    fn extend(&self, set: &mut Merged, near: usize) -> u64 {
         let mut tests = 0;
-        let mut closed = set.present;
+        let mut open = !set.present & (0xff >> (8 - self.n));
         'rounds: loop {
-            for table in 0..self.n {
-                if closed >> table & 1 == 0 && self.schemes[table] & set.attributes != 0 {
-                    closed |= 1 << table;
-                    if let Some(row) = self.first_fit(set, table) {
-                        tests += row as u64 + 1;
+            let mut rest = open;
+            while rest != 0 {
+                let table = rest.trailing_zeros() as usize;
+                rest &= rest - 1;
+                if self.schemes[table] & set.attributes != 0 {
+                    open &= !(1 << table);
+                    if let Some(row) = self.first_fit(set, table, near) {
+                        tests += self.before[table] + row as u64 + 1;
                         self.add(set, table, row + 1);
                         continue 'rounds;
                     }
                 }
-                tests += self.rows[table] as u64;
             }
-            return tests;
+            return tests + self.total;
         }
     }
 
@@ -178,7 +227,7 @@ impl<'a> Plan<'a> {
 
 /// Opens a stream, as `rule::open`.
 pub fn open(catalogue: &Catalogue, cells: &[u64], store: &mut Store) -> Result<(Record, u64), Refusal> {
-    let plan = Plan::checked(catalogue, cells)?;
+    let plan = Plan::checked(catalogue, cells, 1)?;
     let Some(table) = (0..plan.n).find(|&table| plan.rows[table] > 0) else {
         return Ok((Record::default(), 0));
     };
@@ -186,7 +235,7 @@ pub fn open(catalogue: &Catalogue, cells: &[u64], store: &mut Store) -> Result<(
         return Err(Refusal::Full);
     }
     let mut set = plan.alone(table, 1);
-    let row_tests = plan.extend(&mut set);
+    let row_tests = plan.extend(&mut set, 0);
     store.fill(0, set.key);
     Ok((Record { found: 1, taken: 0, next_row: plan.total }, row_tests))
 }
@@ -194,7 +243,7 @@ pub fn open(catalogue: &Catalogue, cells: &[u64], store: &mut Store) -> Result<(
 /// A stream call, as `rule::next`. The row to try is carried along, and the set's key is decoded once.
 pub fn next(catalogue: &Catalogue, cells: &[u64], store: &mut Store, record: &mut Record, budget: u64, padded: &mut [u64]) -> (Outcome, Counts) {
     let mut counts = Counts::default();
-    let plan = match Plan::checked(catalogue, cells) {
+    let plan = match Plan::checked(catalogue, cells, budget) {
         Ok(plan) => plan,
         Err(refusal) => return (Outcome::Refused(refusal), counts),
     };
@@ -242,7 +291,7 @@ fn trials(plan: &Plan, store: &mut Store, record: &mut Record, budget: u64, coun
             return Some(Outcome::Answered(Answer::Working));
         }
         let mut set = plan.turned(&rows, table, row + 1);
-        let row_tests = plan.extend(&mut set);
+        let row_tests = plan.extend(&mut set, row);
         match file(plan, store, record, set.key) {
             Err(stop) => return Some(Outcome::Stopped(stop)),
             Ok(looks) => counts.looks += looks,

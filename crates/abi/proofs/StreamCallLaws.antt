@@ -1,10 +1,8 @@
 -- What each call of a stream promises, one law for each way that its code goes; and why no number that is answered wraps. Assumes nothing.
 use Prim.Native.Nat.{ℕ, zero, suc, _+_, _*_, _≤_, _<_}
-use native.Mathlib.Nat.{mul-le-mul, eq-zero-or-pos}
 use native.Mathlib.Omega.{arith}
 use mathlib.Core.Path.{_≡_, refl, sym, ap, subst, _∙_}
-use mathlib.Core.Logic.{⊎-elim}
-use mathlib.Core.Bool.{true, false}
+use mathlib.Core.Bool.{Bool, true, false}
 use mathlib.Core.List.{List, [], _∷_}
 use lib.ListN.{length, set}
 use lib.Dec.{ltb}
@@ -12,26 +10,17 @@ use borrow.Author.Tests.{ltb-false}
 use Rattle.laws.specs.Lists.{put}
 use Rattle.laws.proofs.TestLaws.{or-none}
 use Rattle.tables.specs.declared.Catalogue.{Catalogue}
-use Rattle.tables.specs.Catalogues.{total}
-use Rattle.tables.specs.Checks.{Lawful}
-use Rattle.tables.proofs.CatalogueLaws.{rows-few}
-use Rattle.disjunction.specs.Rule.{Grown, rows}
-use Rattle.disjunction.specs.Asked.{everySet}
-use Rattle.disjunction.proofs.Extending.{extension-valid}
-use Rattle.rows.specs.World.{worldOf}
-use Rattle.rows.proofs.WorldLaws.{rows-total}
-use Rattle.rows.proofs.NamedLaws.{named-valid, named-size, place-there, row-small, alone-named}
+use Rattle.disjunction.specs.Asked.{Asked}
 use Rattle.store.specs.Store.{storeIn}
-use Rattle.machine.specs.Machine.{Called, call, Opened, openFault, firstGrown, opening}
-use Rattle.machine.proofs.RefusalLaws.{open-clear, opening-refused, opening-empty, opening-begun}
-use Rattle.stream.specs.declared.StreamRecord.{StreamRecord}
-use Rattle.stream.specs.declared.StepAnswer.{StepAnswer}
+use Rattle.machine.specs.Machine.{Called, Opened, openFault, openingFor}
 use Rattle.stream.specs.declared.OpenAnswer.{OpenAnswer}
-use Rattle.stream.specs.Promises.{stateOf, saysOf, calledOf, openedOf}
-use Rattle.stream.proofs.StreamLaws.{first-grown}
-use Rattle.abi.specs.Words.{catalogueWords, catalogueIn}
+use Rattle.stream.specs.declared.StepAnswer.{StepAnswer}
+use Rattle.stream.specs.Promises.{stateWith, saysOf, calledWith, openedWith}
+use Rattle.machine.proofs.RefusalLaws.{opening-refused, opening-says}
+use Rattle.machine.proofs.CountLaws.{open-few}
+use Rattle.abi.specs.Words.{catalogueWords}
 use Rattle.abi.specs.Calls.{tooFewWords}
-use Rattle.abi.specs.Streams.{recordWords, resultWords, wordsOfRecord, wordsOfState, recordIn, resultOf, resultOfCall, answerNumber, openedNumber, openShort, nextShort, OpenCall, callIn, NextCall}
+use Rattle.abi.specs.Streams.{recordWords, holdingWords, resultWords, wordsOfState, resultOf, resultOfCall, answerNumber, openedNumber, openShort, nextShort, Opening, Calling}
 
 -- ---- words put one by one
 
@@ -48,70 +37,56 @@ put-four a b c d (x ∷ (y ∷ [])) h = absurd (omega arith)
 put-four a b c d (x ∷ (y ∷ (z ∷ []))) h = absurd (omega arith)
 put-four a b c d (x ∷ (y ∷ (z ∷ (w ∷ l)))) h = refl
 
+-- A record that names a row is a record of three words, and two words more.
+pub put-two-more : (a b c d e : ℕ) (l : List ℕ) → holdingWords ≤ length l
+    → set (set (put (a ∷ (b ∷ (c ∷ []))) l) 3 d) 4 e ≡ put (a ∷ (b ∷ (c ∷ (d ∷ (e ∷ []))))) l
+put-two-more a b c d e [] h = absurd (omega arith)
+put-two-more a b c d e (v ∷ []) h = absurd (omega arith)
+put-two-more a b c d e (v ∷ (w ∷ [])) h = absurd (omega arith)
+put-two-more a b c d e (v ∷ (w ∷ (x ∷ []))) h = absurd (omega arith)
+put-two-more a b c d e (v ∷ (w ∷ (x ∷ (y ∷ [])))) h = absurd (omega arith)
+put-two-more a b c d e (v ∷ (w ∷ (x ∷ (y ∷ (z ∷ l))))) h = refl
+
 -- ---- the number that open answers
 
-module _ (cat : Catalogue) (cells keys left right : List ℕ) where
-  -- The first row takes at most n * N tests.
-  first-few : Lawful cat (length cells) → 0 < total cat → firstGrown cat cells everySet .tests ≤ 8 * 2040
-  first-few L h =
-      let x = place-there cat cells 0 h in
-      let N = alone-named cat _ _ x (row-small cat (length cells) L _ _ x) in
-      let b = extension-valid (worldOf cat cells) _ (named-valid cat cells _ N) (named-size cat cells _ N) .few in
-      let e = ap (λ (g : Grown). g .tests) (first-grown cat cells (length cells) L h) in
-      let q : length (rows (worldOf cat cells)) ≤ 2040 = omega (arith, rows-few cat (length cells) L (cat .n) (omega arith), rows-total cat cells) in
-      let m : cat .n * length (rows (worldOf cat cells)) ≤ 8 * 2040 = mul-le-mul (L .tables) q in
-      omega (arith, b, e, m)
-
-  -- A refusal comes with no tests, so its number is its own.
-  pub opening-low : (top : ℕ) → 1000000 ≤ top → opening cat cells keys left right .refusal < top → openedNumber (opening cat cells keys left right) < top
-  opening-low top big r = by (openFault cat (length cells) everySet (storeIn keys left right 0)) refl
-    where
-      by : (k : ℕ) → openFault cat (length cells) everySet (storeIn keys left right 0) ≡ k → openedNumber (opening cat cells keys left right) < top
-      by (suc k) e =
-          let o = opening-refused cat cells everySet keys left right (suc k) e (λ z. omega arith) in
-          rw o (omega (arith, rw o at r))
-      by zero e = ⊎-elim none some (eq-zero-or-pos (total cat))
-        where
-          none : total cat ≡ 0 → openedNumber (opening cat cells keys left right) < top
-          none z = rw (opening-empty cat cells everySet keys left right e z) (omega arith)
-
-          some : 0 < total cat → openedNumber (opening cat cells keys left right) < top
-          some h =
-              let L = open-clear cat (length cells) everySet (storeIn keys left right 0) e .0 in
-              rw (opening-begun cat cells everySet keys left right e h) (omega (arith, first-few L h))
-
-  pub opened-low : (r : OpenAnswer) (keys′ left′ right′ : List ℕ) (top : ℕ) → 1000000 ≤ top → openedOf r keys′ left′ right′ ≡ opening cat cells keys left right
-      → r .refusal < top → r .tests * 32 + r .refusal < top
-  opened-low r keys′ left′ right′ top big o h =
-      subst (λ (x : Opened). openedNumber x < top) (sym o) (opening-low top big (subst (λ (x : Opened). x .refusal < top) o h))
+-- A refusal comes with no tests, and no open has many: its number fits where its refusal does.
+pub opened-low : (cat : Catalogue) (cells : List ℕ) (a : Asked) (keys left right : List ℕ) (o : Opened) (top : ℕ)
+    → o ≡ openingFor cat cells a keys left right → 1000000 ≤ top → o .refusal < top → openedNumber o < top
+opened-low cat cells a keys left right o top same big h =
+    subst (λ (x : Opened). openedNumber x < top) (sym same) (by (openFault cat (length cells) a (storeIn keys left right 0)) refl)
+  where
+    by : (k : ℕ) → openFault cat (length cells) a (storeIn keys left right 0) ≡ k → openedNumber (openingFor cat cells a keys left right) < top
+    by zero e = omega (arith, open-few cat cells a keys left right, opening-says cat cells a keys left right)
+    by (suc k) e =
+        let r = opening-refused cat cells a keys left right (suc k) e (λ z. omega arith) in
+        rw r (omega (arith, ap (λ (x : Opened). x .refusal) same, ap (λ (x : Opened). x .refusal) r))
 
 -- ---- where the words are not too few
 
-pub open-enough : (catalogue words : List ℕ) → openShort catalogue words ≡ false → (catalogueWords ≤ length catalogue) × (recordWords ≤ length words)
+pub open-enough : (w : ℕ) (catalogue words : List ℕ) → openShort w catalogue words ≡ false → (catalogueWords ≤ length catalogue) × (w ≤ length words)
 unfolding openShort
-open-enough catalogue words e =
-    let (a, b) = or-none (ltb (length catalogue) catalogueWords) (ltb (length words) recordWords) e in
-    (ltb-false (length catalogue) catalogueWords a, ltb-false (length words) recordWords b)
+open-enough w catalogue words e =
+    let (a, b) = or-none (ltb (length catalogue) catalogueWords) (ltb (length words) w) e in
+    (ltb-false (length catalogue) catalogueWords a, ltb-false (length words) w b)
 
-pub next-enough : (catalogue words result : List ℕ) → nextShort catalogue words result ≡ false
-    → (catalogueWords ≤ length catalogue) × (recordWords ≤ length words) × (resultWords ≤ length result)
+pub next-enough : (w : ℕ) (catalogue words result : List ℕ) → nextShort w catalogue words result ≡ false
+    → (catalogueWords ≤ length catalogue) × (w ≤ length words) × (resultWords ≤ length result)
 unfolding nextShort
-next-enough catalogue words result e =
-    let (a, b) = or-none (openShort catalogue words) (ltb (length result) resultWords) e in
-    let (c, d) = open-enough catalogue words a in
+next-enough w catalogue words result e =
+    let (a, b) = or-none (openShort w catalogue words) (ltb (length result) resultWords) e in
+    let (c, d) = open-enough w catalogue words a in
     (c, d, ltb-false (length result) resultWords b)
 
 -- ---- open
 
-module _ (catalogue cells keys left right words : List ℕ) where
-  pub open-short : openShort catalogue words ≡ true → OpenCall catalogue cells keys left right words tooFewWords keys left right words
+module _ (few : Bool) (o : Opened) (keys left right words : List ℕ) where
+  pub open-short : few ≡ true → Opening few o keys left right words tooFewWords keys left right words
   open-short e = record { answer = rw e; keys-after = rw e; left-after = rw e; right-after = rw e; words-after = rw e }
 
-  pub open-done : (cat : Catalogue) (r : OpenAnswer) (k : ℕ) (keys′ left′ right′ words′ : List ℕ) → openShort catalogue words ≡ false → cat ≡ catalogueIn catalogue
-      → openedOf r keys′ left′ right′ ≡ opening cat cells keys left right → k ≡ openedNumber (openedOf r keys′ left′ right′) → words′ ≡ put (wordsOfRecord (r .stream)) words
-      → OpenCall catalogue cells keys left right words k keys′ left′ right′ words′
-  open-done cat r k keys′ left′ right′ words′ e c o n w =
-      let p : openedOf r keys′ left′ right′ ≡ opening (catalogueIn catalogue) cells keys left right = o ∙ ap (λ (x : Catalogue). opening x cells keys left right) c in
+  pub open-done : (a : Asked) (r : OpenAnswer) (k : ℕ) (keys′ left′ right′ words′ : List ℕ) → few ≡ false → openedWith a r keys′ left′ right′ ≡ o
+      → k ≡ openedNumber (openedWith a r keys′ left′ right′) → words′ ≡ put (wordsOfState (stateWith a (r .stream) keys′ left′ right′)) words
+      → Opening few o keys left right words k keys′ left′ right′ words′
+  open-done a r k keys′ left′ right′ words′ e p n w =
       record {
         answer = rw e (n ∙ ap openedNumber p);
         keys-after = rw e (ap (λ (x : Opened). x .after .store .keys) p);
@@ -122,20 +97,16 @@ module _ (catalogue cells keys left right words : List ℕ) where
 
 -- ---- a stream call
 
-module _ (catalogue cells keys left right words : List ℕ) (budget : ℕ) (row result : List ℕ) where
-  pub next-short : nextShort catalogue words result ≡ true
-      → NextCall catalogue cells keys left right words budget row result tooFewWords keys left right words row result
+module _ (few : Bool) (s : Called) (keys left right words row result : List ℕ) where
+  pub next-short : few ≡ true → Calling few s keys left right words row result tooFewWords keys left right words row result
   next-short e =
       record { answer = rw e; keys-after = rw e; left-after = rw e; right-after = rw e; words-after = rw e; row-after = rw e; result-after = rw e }
 
-  pub next-done : (cat : Catalogue) (s : StreamRecord) (r : StepAnswer) (k : ℕ) (keys′ left′ right′ words′ row′ result′ : List ℕ)
-      → nextShort catalogue words result ≡ false → cat ≡ catalogueIn catalogue → s ≡ recordIn words
-      → calledOf r keys′ left′ right′ row′ ≡ call cat cells budget (stateOf s keys left right) row → k ≡ answerNumber (saysOf (r .answer))
-      → words′ ≡ put (wordsOfRecord (r .stream)) words → result′ ≡ put (resultOf r) result
-      → NextCall catalogue cells keys left right words budget row result k keys′ left′ right′ words′ row′ result′
-  next-done cat s r k keys′ left′ right′ words′ row′ result′ e c d o n w v =
-      let p : calledOf r keys′ left′ right′ row′ ≡ callIn catalogue cells keys left right words budget row =
-      o ∙ ap (λ (x : Catalogue). call x cells budget (stateOf s keys left right) row) c ∙ ap (λ (x : StreamRecord). call (catalogueIn catalogue) cells budget (stateOf x keys left right) row) d in
+  pub next-done : (a : Asked) (r : StepAnswer) (k : ℕ) (keys′ left′ right′ words′ row′ result′ : List ℕ) → few ≡ false
+      → calledWith a r keys′ left′ right′ row′ ≡ s → k ≡ answerNumber (saysOf (r .answer))
+      → words′ ≡ put (wordsOfState (stateWith a (r .stream) keys′ left′ right′)) words → result′ ≡ put (resultOf (r .key) (r .trials) (r .tests) (r .looks)) result
+      → Calling few s keys left right words row result k keys′ left′ right′ words′ row′ result′
+  next-done a r k keys′ left′ right′ words′ row′ result′ e p n w v =
       record {
         answer = rw e (n ∙ ap (λ (x : Called). answerNumber (x .says)) p);
         keys-after = rw e (ap (λ (x : Called). x .after .store .keys) p);

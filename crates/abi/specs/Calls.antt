@@ -7,10 +7,11 @@ use mathlib.Core.List.{List}
 use lib.ListN.{length}
 use lib.Dec.{ltb}
 use Rattle.laws.specs.Lists.{put}
-use Rattle.image.specs.declared.Written.{Written}
-use Rattle.image.specs.declared.Written.the-variants.{Length, Refused}
-use Rattle.image.specs.Load.{firstTable, scanOf, tablesCodes, cellsAfter}
-use Rattle.image.specs.Write.{imageOf, written, bytesAfter}
+use Rattle.writer.specs.declared.Written.{Written}
+use Rattle.writer.specs.declared.Written.the-variants.{Length, Refused}
+use Rattle.loader.specs.Load.{firstTable, scanOf, tablesCodes, cellsAfter}
+use Rattle.writer.specs.Write.{imageOf, written, bytesAfter}
+use Rattle.padding.specs.Covering.{covering}
 use Rattle.verdicts.specs.Number.{doorNumber}
 use Rattle.abi.specs.Words.{catalogueWords, wordsOf, catalogueIn}
 
@@ -37,3 +38,7 @@ writtenNumber (Refused k) = k
 pub record WriteCall (words cells out : List ℕ) (r : ℕ) (out′ : List ℕ) : Type 0 where
   pub answer : r ≡ cond (short words) tooFewWords (writtenNumber (written (catalogueIn words) cells (length out)))
   pub bytes-after : out′ ≡ cond (short words) out (bytesAfter (written (catalogueIn words) cells (length out)) (imageOf (catalogueIn words) cells) out)
+
+-- harbour_covers: 1 for yes, 0 for no.
+abbrev pub CoversCall : List ℕ → List ℕ → ℕ → Type 0
+CoversCall first second r = r ≡ cond (covering first second) 1 0

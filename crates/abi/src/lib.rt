@@ -6,11 +6,11 @@ ghost use lib.Dec.{ltb};
 ghost use Rattle.laws.specs.Lists.{put};
 ghost use Rattle.abi.specs.Words.{catalogueWords, wordsOf, countIn, catalogueIn};
 ghost use Rattle.abi.specs.Calls.{LoadCall, WriteCall};
-use image::Written;
 use tables::Catalogue;
+use writer::Written;
 
-mod lists;
-mod streams;
+pub mod lists;
+pub mod streams;
 
 // The word of a catalogue at a place: m, n, the eight schemes, the eight row counts.
 // One function says the order, so that the copy is a single loop.
@@ -95,7 +95,7 @@ pub extern "C" fn harbour_load(image: &[u8], cells: &mut [u64], catalogue: &mut 
     if too_few(catalogue.len()) {
         return 31;
     }
-    let r = image::load(image, cells);
+    let r = loader::load(image, cells);
     let verdict = r.verdict;
     let cat = r.catalogue;
     put_catalogue(cat, catalogue);
@@ -112,7 +112,7 @@ pub extern "C" fn harbour_write(catalogue: &[u64], cells: &[u64], out: &mut [u8]
         return 31;
     }
     let cat = catalogue_in(catalogue);
-    match image::write(cat, cells, out) {
+    match writer::write(cat, cells, out) {
         Written::Length(n) => (n as u64) * 32,
         Written::Refused(k) => k as u64,
     }

@@ -1,15 +1,19 @@
-// The stream's calls for C and Rust: the store in three slices, a record as 3 words, a result as 4.
+// The stream's calls for C and Rust: the store in three slices, a record as 3 words (5 where it names a row), a result as 4.
 ghost use mathlib.Core.Path.{_≡_};
-ghost use mathlib.Core.Bool.{cond};
 ghost use Prim.Native.Nat.{_≤_};
 ghost use lib.ListN.{length};
 ghost use Rattle.laws.specs.Lists.{put};
-ghost use Rattle.padding.specs.Covering.{covering};
 ghost use Rattle.stream.specs.Promises.{saysOf};
-ghost use Rattle.abi.specs.Streams.{recordWords, resultWords, wordsOfRecord, recordIn, resultOf, answerNumber, openShort, nextShort, OpenCall, NextCall};
+ghost use Rattle.abi.specs.Calls.{CoversCall};
+ghost use Rattle.abi.specs.Streams.{recordWords, holdingWords, resultWords, wordsOfRecord, wordsOfHolding, recordIn, holdingIn, resultOf, answerNumber, openShort, nextShort, OpenCall, NextCall, OpenHoldingCall, NextHoldingCall};
 use stream::Answer;
-use stream::StepAnswer;
+use stream::HoldingRecord;
 use stream::StreamRecord;
+
+// The words of a stream record, and of one that names a row.
+const RECORD_WORDS: usize = 3;
+
+const HOLDING_WORDS: usize = 5;
 
 // The stream record that the front of the lent words holds.
 // Nothing is judged here: the call refuses a record that does not fit.
@@ -35,16 +39,42 @@ fn put_record(stream: StreamRecord, words: &mut [u64])
     words[2] = stream.next_row as u64;
 }
 
+// The record that names a row, which the front of the lent words holds.
+// Nothing is judged here: the call refuses a record that does not fit.
+fn holding_in(words: &[u64]) -> HoldingRecord
+    requires { ⌜ holdingWords ≤ length (now words) ⌝ }
+    ensures { λ r. ⌜ r ≡ holdingIn (now (words .entry)) ⌝ }
+{
+    let stream = record_in(words);
+    HoldingRecord {
+        stream,
+        table: words[3] as usize,
+        row: words[4] as usize,
+    }
+}
+
+// Copies a record that names a row into the front of the lent words.
+// What lies behind the 5 words stays.
+fn put_holding(holding: HoldingRecord, words: &mut [u64])
+    requires { ⌜ holdingWords ≤ length (now words) ⌝ }
+    ensures { λ _. ⌜ now (words .exit) ≡ put (wordsOfHolding holding) (now (words .entry)) ⌝ }
+{
+    let stream = holding.stream;
+    put_record(stream, words);
+    words[3] = holding.table as u64;
+    words[4] = holding.row as u64;
+}
+
 // Copies the key and the counts of an answer into the front of the lent words.
 // What lies behind the 4 words stays.
-fn put_result(r: StepAnswer, words: &mut [u64])
+fn put_result(key: u64, trials: usize, tests: usize, looks: usize, words: &mut [u64])
     requires { ⌜ resultWords ≤ length (now words) ⌝ }
-    ensures { λ _. ⌜ now (words .exit) ≡ put (resultOf r) (now (words .entry)) ⌝ }
+    ensures { λ _. ⌜ now (words .exit) ≡ put (resultOf key trials tests looks) (now (words .entry)) ⌝ }
 {
-    words[0] = r.key;
-    words[1] = r.trials as u64;
-    words[2] = r.tests as u64;
-    words[3] = r.looks as u64;
+    words[0] = key;
+    words[1] = trials as u64;
+    words[2] = tests as u64;
+    words[3] = looks as u64;
 }
 
 // An answer as a number: a refusal's own, else 32 for a set, 64 for the end, 96 for a spent budget.
@@ -60,23 +90,23 @@ fn number_of(answer: Answer) -> u64
     }
 }
 
-// Whether the lent words are too few to open a stream.
+// Whether the lent words are too few to open a stream whose record has so many.
 // It is asked first, so that a short slice changes nothing.
-fn open_short(catalogue: &[u64], words: &[u64]) -> bool
-    ensures { λ r. ⌜ r ≡ openShort (now (catalogue .entry)) (now (words .entry)) ⌝ }
+fn open_short(catalogue: &[u64], words: &[u64], needed: usize) -> bool
+    ensures { λ r. ⌜ r ≡ openShort needed (now (catalogue .entry)) (now (words .entry)) ⌝ }
 {
     if crate::too_few(catalogue.len()) {
         return true;
     }
-    words.len() < 3
+    words.len() < needed
 }
 
-// Whether the lent words are too few for a stream call.
+// Whether the lent words are too few for a call of a stream whose record has so many.
 // It is asked first, so that a short slice changes nothing.
-fn next_short(catalogue: &[u64], words: &[u64], result: &[u64]) -> bool
-    ensures { λ r. ⌜ r ≡ nextShort (now (catalogue .entry)) (now (words .entry)) (now (result .entry)) ⌝ }
+fn next_short(catalogue: &[u64], words: &[u64], result: &[u64], needed: usize) -> bool
+    ensures { λ r. ⌜ r ≡ nextShort needed (now (catalogue .entry)) (now (words .entry)) (now (result .entry)) ⌝ }
 {
-    if open_short(catalogue, words) {
+    if open_short(catalogue, words, needed) {
         return true;
     }
     result.len() < 4
@@ -95,7 +125,7 @@ pub extern "C" fn harbour_open(
 ) -> u64
     ensures { λ r. ⌜ OpenCall (now (catalogue .entry)) (now (cells .entry)) (now (keys .entry)) (now (left .entry)) (now (right .entry)) (now (words .entry)) r (now (keys .exit)) (now (left .exit)) (now (right .exit)) (now (words .exit)) ⌝ }
 {
-    if open_short(catalogue, words) {
+    if open_short(catalogue, words, RECORD_WORDS) {
         return 31;
     }
     let cat = crate::catalogue_in(catalogue);
@@ -121,7 +151,7 @@ pub extern "C" fn harbour_next(
 ) -> u64
     ensures { λ r. ⌜ NextCall (now (catalogue .entry)) (now (cells .entry)) (now (keys .entry)) (now (left .entry)) (now (right .entry)) (now (words .entry)) budget (now (padded .entry)) (now (result .entry)) r (now (keys .exit)) (now (left .exit)) (now (right .exit)) (now (words .exit)) (now (padded .exit)) (now (result .exit)) ⌝ }
 {
-    if next_short(catalogue, words, result) {
+    if next_short(catalogue, words, result, RECORD_WORDS) {
         return 31;
     }
     let cat = crate::catalogue_in(catalogue);
@@ -139,7 +169,70 @@ pub extern "C" fn harbour_next(
     let after = r.stream;
     let answer = r.answer;
     put_record(after, words);
-    put_result(r, result);
+    put_result(r.key, r.trials, r.tests, r.looks, result);
+    number_of(answer)
+}
+
+// Opens a stream of the sets that hold one row of a table, and copies its record into the lent words.
+// The answer is row tests x 32, or the refusal, or 31 where the words are too few.
+#[no_mangle]
+pub extern "C" fn harbour_open_holding(
+    catalogue: &[u64],
+    cells: &[u64],
+    keys: &mut [u64],
+    left: &mut [u16],
+    right: &mut [u16],
+    table: u64,
+    row: u64,
+    words: &mut [u64],
+) -> u64
+    ensures { λ r. ⌜ OpenHoldingCall (now (catalogue .entry)) (now (cells .entry)) (now (keys .entry)) (now (left .entry)) (now (right .entry)) table row (now (words .entry)) r (now (keys .exit)) (now (left .exit)) (now (right .exit)) (now (words .exit)) ⌝ }
+{
+    if open_short(catalogue, words, HOLDING_WORDS) {
+        return 31;
+    }
+    let cat = crate::catalogue_in(catalogue);
+    let r = stream::open_holding(cat, cells, keys, left, right, table as usize, row as usize);
+    let opened = r.stream;
+    put_holding(opened, words);
+    (r.tests as u64) * 32 + (r.refusal as u64)
+}
+
+// One call of a stream of the sets that hold one row; its record is moved on in the lent words.
+// The answer is its number, or 31 where the words are too few.
+#[no_mangle]
+pub extern "C" fn harbour_next_holding(
+    catalogue: &[u64],
+    cells: &[u64],
+    keys: &mut [u64],
+    left: &mut [u16],
+    right: &mut [u16],
+    words: &mut [u64],
+    budget: u64,
+    padded: &mut [u64],
+    result: &mut [u64],
+) -> u64
+    ensures { λ r. ⌜ NextHoldingCall (now (catalogue .entry)) (now (cells .entry)) (now (keys .entry)) (now (left .entry)) (now (right .entry)) (now (words .entry)) budget (now (padded .entry)) (now (result .entry)) r (now (keys .exit)) (now (left .exit)) (now (right .exit)) (now (words .exit)) (now (padded .exit)) (now (result .exit)) ⌝ }
+{
+    if next_short(catalogue, words, result, HOLDING_WORDS) {
+        return 31;
+    }
+    let cat = crate::catalogue_in(catalogue);
+    let before = holding_in(words);
+    let r = stream::step_holding(
+        cat,
+        cells,
+        keys,
+        left,
+        right,
+        before,
+        budget as usize,
+        padded,
+    );
+    let after = r.stream;
+    let answer = r.answer;
+    put_holding(after, words);
+    put_result(r.key, r.trials, r.tests, r.looks, result);
     number_of(answer)
 }
 
@@ -147,7 +240,7 @@ pub extern "C" fn harbour_next(
 // The rows may have any length.
 #[no_mangle]
 pub extern "C" fn harbour_covers(first: &[u64], second: &[u64]) -> u64
-    ensures { λ r. ⌜ r ≡ cond (covering (now (first .entry)) (now (second .entry))) 1 0 ⌝ }
+    ensures { λ r. ⌜ CoversCall (now (first .entry)) (now (second .entry)) r ⌝ }
 {
     if padding::covers(first, second) {
         return 1;

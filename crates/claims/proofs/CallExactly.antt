@@ -1,25 +1,30 @@
 -- The refusals of open and of the stream call, each exactly when. What carries the proof: the checks before work, case by case in their order; at work,
 -- one induction over the ways a call goes, and back one over its trials. Assumes nothing.
-use Prim.Native.Nat.{ℕ, suc, _≤_, _<_}
+use Prim.Native.Nat.{ℕ, zero, suc, _+_, _<_}
 use native.Mathlib.Decide.{ℕ-discrete, decLt}
 use native.Mathlib.Omega.{arith}
+use native.Mathlib.Nat.{zero-add, suc-add, eq-zero-or-pos}
 use mathlib.Core.Path.{_≡_, refl, sym, ap, subst, _∙_}
-use mathlib.Core.Bool.{true, false}
+use mathlib.Core.Bool.{Bool, true, false}
 use mathlib.Core.Logic.{_⊎_, inl, inr, ⊎-elim}
 use mathlib.Core.List.{List}
 use lib.ListN.{length}
 use Rattle.laws.proofs.TestLaws.{which, clash}
 use Rattle.tables.specs.declared.Catalogue.{Catalogue}
+use Rattle.tables.specs.Catalogues.{total}
 use Rattle.tables.specs.Checks.{Lawful, catalogueFault}
 use Rattle.tables.proofs.CheckLaws.{fault-lawful}
+use Rattle.rows.specs.Named.{named}
+use Rattle.rows.proofs.NamedLaws.{named-iff}
 use Rattle.disjunction.specs.Asked.{Asked}
-use Rattle.store.specs.Store.{storeIn}
-use Rattle.machine.specs.Machine.{State, Trial, done, full, damaged, trialOn, Says, aSet, finished, working, refused, Called, afterTrial, Fit, unfit, callFault, work, call, openingFor}
-use Rattle.machine.proofs.WorkLaws.{work-lost, work-trial, by-ways}
-use Rattle.machine.proofs.RefusalLaws.{unfit-iff, unfit-met, call-catalogue, call-unfit, call-short, call-free, call-refused, call-works, open-catalogue, opening-says}
-use Rattle.claims.specs.CallRefusals.{TrialDue, WorksTo, here, tried, LostDue, CallExact, OpenExact}
-use Rattle.claims.proofs.Opens.{opens-iff, stray-met-iff, full-iff}
-use Rattle.claims.proofs.ScanLaws.{Case}
+use Rattle.store.specs.Store.{storeIn, roomIn}
+use Rattle.machine.specs.Machine.{State, keyDue, Trial, done, full, damaged, trialOn, Says, aSet, finished, working, refused, Called, answer, afterTrial, stray, Fit, unfit, callFault, work, call, openingFor}
+use Rattle.machine.proofs.WorkLaws.{work-ends, work-hands, work-lost, work-spent, work-trial, by-ways}
+use Rattle.machine.proofs.RefusalLaws.{stray-iff, unfit-iff, unfit-met, call-catalogue, call-unfit, call-short, call-free, call-refused, call-works, open-catalogue, opening-says}
+use Rattle.claims.specs.CallRefusals.{TrialDue, Trials, none, more, WorksTo, SetDue, EndDue, Ready, CallExact, Stands, OpenExact}
+use Rattle.claims.proofs.Opens.{opens-iff, stray-met, stray-met-iff, full-iff}
+use Rattle.claims.proofs.ScanLaws.{iff-no, Case, case-of}
+use Rattle.claims.proofs.Searching.{trial-full-iff, trial-damaged-iff}
 use Rattle.claims.proofs.CatalogueExactly.{catalogue-exact}
 
 -- The catalogue's refusals are the low ones.
@@ -33,6 +38,11 @@ catalogue-low cat lent k e = by (catalogue-exact cat lent .no-other k e)
     by (inr (inr (inr (inl e)))) = omega arith
     by (inr (inr (inr (inr e)))) = omega arith
 
+-- Where one is met, it is one of the four.
+catalogue-four : (cat : Catalogue) (lent : ℕ) → (catalogueFault cat lent ≡ 0 → ⊥)
+    → (catalogueFault cat lent ≡ 4) ⊎ (catalogueFault cat lent ≡ 5) ⊎ (catalogueFault cat lent ≡ 6) ⊎ (catalogueFault cat lent ≡ 8)
+catalogue-four cat lent n = ⊎-elim (λ z. absurd (n z)) (λ x. x) (catalogue-exact cat lent .no-other (catalogueFault cat lent) refl)
+
 same-refusal : (j k : ℕ) → refused j ≡ refused k → j ≡ k
 same-refusal j k e = ap number e
   where
@@ -45,55 +55,102 @@ same-refusal j k e = ap number e
 -- ---- at work
 
 module _ (cat : Catalogue) (cells : List ℕ) where
+  -- No trial, and one trial more before those of a call.
+  works-none : (b : ℕ) (q : State) → WorksTo cat cells b q b q
+  works-none b q = (0, 0, 0, none, omega arith)
+
+  works-more : (b a : ℕ) (q p z : State) (t l : ℕ) → TrialDue cat cells q → trialOn cat cells q ≡ done p t l → WorksTo cat cells b p a z
+      → WorksTo cat cells (suc b) q a z
+  works-more b a q p z t l d e (k, u, v, w, h) = (suc k, t + u, l + v, more d e w, omega (arith, suc-add k a))
+
   -- A trial that is come to comes to x.
   abbrev Stops : Trial → ℕ → State → Type 0
   Stops x b q = (a : ℕ) × (p : State) × WorksTo cat cells b q (suc a) p × TrialDue cat cells p × (trialOn cat cells p ≡ x)
 
-  abbrev Lost : ℕ → State → Type 0
-  Lost b q = (a : ℕ) × (p : State) × WorksTo cat cells b q a p × LostDue cat cells p
+  -- A record is due, and its key passes 14's test or fails it.
+  abbrev Due : Bool → ℕ → State → Type 0
+  Due x b q = (a : ℕ) × (p : State) × WorksTo cat cells b q a p × SetDue cat cells p × (named cat (keyDue p) ≡ x)
+
+  abbrev Ends : ℕ → State → Type 0
+  Ends b q = (a : ℕ) × (p : State) × WorksTo cat cells b q a p × EndDue cat cells p
+
+  abbrev Spent : ℕ → State → Type 0
+  Spent b q = (p : State) × WorksTo cat cells b q 0 p × TrialDue cat cells p
 
   -- Why work says what it says.
   abbrev Why : ℕ → State → Says → Type 0
-  Why b q (refused r) = ((r ≡ 12) × Stops full b q) ⊎ ((r ≡ 14) × (Stops damaged b q ⊎ Lost b q))
-  Why b q aSet = _≡_ {A = ℕ} 0 0
-  Why b q finished = _≡_ {A = ℕ} 0 0
-  Why b q working = _≡_ {A = ℕ} 0 0
+  Why b q (refused r) = ((r ≡ 12) × Stops full b q) ⊎ ((r ≡ 14) × (Stops damaged b q ⊎ Due false b q))
+  Why b q aSet = Due true b q
+  Why b q finished = Ends b q
+  Why b q working = Spent b q
 
   -- Why it does after a trial is why it does before.
   why-on : (b : ℕ) (q p : State) (t l : ℕ) → TrialDue cat cells q → trialOn cat cells q ≡ done p t l → (s : Says) → Why b p s → Why (suc b) q s
-  why-on b q p t l d e (refused r) (inl (f, (a, z, w, x, y))) = inl (f, (a, z, tried d e w, x, y))
-  why-on b q p t l d e (refused r) (inr (f, inl (a, z, w, x, y))) = inr (f, inl (a, z, tried d e w, x, y))
-  why-on b q p t l d e (refused r) (inr (f, inr (a, z, w, x))) = inr (f, inr (a, z, tried d e w, x))
-  why-on b q p t l d e aSet h = h
-  why-on b q p t l d e finished h = h
-  why-on b q p t l d e working h = h
+  why-on b q p t l d e (refused r) (inl (f, (a, z, w, x, y))) = inl (f, (a, z, works-more b (suc a) q p z t l d e w, x, y))
+  why-on b q p t l d e (refused r) (inr (f, inl (a, z, w, x, y))) = inr (f, inl (a, z, works-more b (suc a) q p z t l d e w, x, y))
+  why-on b q p t l d e (refused r) (inr (f, inr (a, z, w, x, y))) = inr (f, inr (a, z, works-more b a q p z t l d e w, x, y))
+  why-on b q p t l d e aSet (a, z, w, x, y) = (a, z, works-more b a q p z t l d e w, x, y)
+  why-on b q p t l d e finished (a, z, w, x) = (a, z, works-more b a q p z t l d e w, x)
+  why-on b q p t l d e working (z, w, x) = (z, works-more b 0 q p z t l d e w, x)
 
   module _ (row : List ℕ) where
     why : (b : ℕ) (q : State) → Why b q (work cat cells b q row .says)
     why =
         by-ways cat cells row (λ b q s. Why b q (s .says))
         (record {
-          ends = λ b q e f. refl;
-          hands = λ b q e f k. refl;
-          lost = λ b q e f k. inr (refl, inr (b, q, here, (e, f, k)));
-          spent = λ q e. refl;
-          fills = λ b q e f. inl (refl, (b, q, here, e, f));
-          fails = λ b q e f. inr (refl, inl (b, q, here, e, f));
+          ends = λ b q e f. (b, q, works-none b q, (e, f));
+          hands = λ b q e f k. (b, q, works-none b q, (e, f), k);
+          lost = λ b q e f k. inr (refl, inr (b, q, works-none b q, (e, f), k));
+          spent = λ q e. (q, works-none 0 q, e);
+          fills = λ b q e f. inl (refl, (b, q, works-none (suc b) q, e, f));
+          fails = λ b q e f. inr (refl, inl (b, q, works-none (suc b) q, e, f));
           goes = λ b q p t l e f ih. why-on b q p t l e f (work cat cells b p row .says) ih;
         })
 
     -- And back: what is come to is said.
-    works-says : {b a : ℕ} {q p : State} → WorksTo cat cells b q a p → work cat cells b q row .says ≡ work cat cells a p row .says
-    works-says here = refl
-    works-says (tried d e w) = ap (λ (s : Called). s .says) (work-trial cat cells row _ _ _ d e) ∙ works-says w
+    trials-say : {k : ℕ} {q p : State} {t l : ℕ} (a : ℕ) → Trials cat cells k q p t l → work cat cells (k + a) q row .says ≡ work cat cells a p row .says
+    trials-say a none = rw (zero-add a) refl
+    trials-say a (more {k} {q} d e w) = rw (suc-add k a) (ap (λ (s : Called). s .says) (work-trial cat cells row (k + a) q _ d e) ∙ trials-say a w)
+
+    works-says : (b a : ℕ) (q p : State) → WorksTo cat cells b q a p → work cat cells b q row .says ≡ work cat cells a p row .says
+    works-says b a q p (k, t, l, w, h) = ap (λ (x : ℕ). work cat cells x q row .says) (sym h) ∙ trials-say a w
 
     stops-says : (b : ℕ) (q : State) (x : Trial) (r : ℕ) → Stops x b q
         → ((a : ℕ) (p : State) → afterTrial x p row (λ z. work cat cells a z row) .says ≡ refused r)
         → work cat cells b q row .says ≡ refused r
-    stops-says b q x r (a, p, w, d, e) h = works-says w ∙ ap (λ (s : Called). s .says) (work-trial cat cells row a p x d e) ∙ h a p
+    stops-says b q x r (a, p, w, d, e) h = works-says b (suc a) q p w ∙ ap (λ (s : Called). s .says) (work-trial cat cells row a p x d e) ∙ h a p
 
-    lost-says : (b : ℕ) (q : State) → Lost b q → work cat cells b q row .says ≡ refused 14
-    lost-says b q (a, p, w, (e, f, k)) = works-says w ∙ ap (λ (s : Called). s .says) (work-lost cat cells row a p e f k)
+    lost-says : (b : ℕ) (q : State) → Due false b q → work cat cells b q row .says ≡ refused 14
+    lost-says b q (a, p, w, (e, f), k) = works-says b a q p w ∙ ap (λ (s : Called). s .says) (work-lost cat cells row a p e f k)
+
+    hands-says : (b : ℕ) (q : State) → Due true b q → work cat cells b q row .says ≡ aSet
+    hands-says b q (a, p, w, (e, f), k) = works-says b a q p w ∙ ap (λ (s : Called). s .says) (work-hands cat cells row a p e f k)
+
+    ends-says : (b : ℕ) (q : State) → Ends b q → work cat cells b q row .says ≡ finished
+    ends-says b q (a, p, w, (e, f)) = works-says b a q p w ∙ ap (λ (s : Called). s .says) (work-ends cat cells row a p e f)
+
+    spent-says : (b : ℕ) (q : State) → Spent b q → work cat cells b q row .says ≡ working
+    spent-says b q (p, w, e) = works-says b 0 q p w ∙ ap (λ (s : Called). s .says) (work-spent cat cells row p e)
+
+    -- ---- where it stands
+
+    -- Without a trial nothing has moved.
+    stands-still : (b : ℕ) (q : State) (a : Says) → Stands cat cells b q row (answer a q row)
+    stands-still b q a = record { trials = none; budget = omega arith; key = refl; row = refl }
+
+    pub work-stands : (b : ℕ) (q : State) → (work cat cells b q row .says ≡ aSet → ⊥) → Stands cat cells b q row (work cat cells b q row)
+    work-stands =
+        by-ways cat cells row (λ b q s. (s .says ≡ aSet → ⊥) → Stands cat cells b q row s)
+        (record {
+          ends = λ b q e f n. stands-still b q finished;
+          hands = λ b q e f k n. absurd (n refl);
+          lost = λ b q e f k n. stands-still b q (refused 14);
+          spent = λ q e n. stands-still 0 q working;
+          fills = λ b q e f n. stands-still (suc b) q (refused 12);
+          fails = λ b q e f n. stands-still (suc b) q (refused 14);
+          goes = λ b q p t l e f ih n.
+              let i = ih n in record { trials = more e f (i .trials); budget = omega (arith, i .budget); key = i .key; row = i .row };
+        })
 
 -- ---- the call
 
@@ -101,28 +158,19 @@ module _ (cat : Catalogue) (cells : List ℕ) (b : ℕ) (q : State) (row : List 
   abbrev Good : Type 0
   Good = Lawful cat (length cells)
 
-  -- Why a call refuses with k, beside the catalogue.
-  abbrev Told : ℕ → Type 0
-  Told k =
-      Case 13 k (Good × (Fit cat q → ⊥))
-      (Case 11 k (Good × Fit cat q × (length row < cat .m))
-      (Case 12 k (Good × Fit cat q × (cat .m ≤ length row) × Stops cat cells full b q)
-      (Case 14 k (Good × Fit cat q × (cat .m ≤ length row) × (Stops cat cells damaged b q ⊎ Lost cat cells b q))
-      ⊥)))
-
   -- The state of the checks before work.
   data Way : Type 0 where
     faulty : (catalogueFault cat (length cells) ≡ 0 → ⊥) → Way
     unfits : Good → (Fit cat q → ⊥) → Way
     short : Good → Fit cat q → length row < cat .m → Way
-    works : Good → Fit cat q → cat .m ≤ length row → Way
+    works : Ready cat cells q row → Way
 
   way : Way
   way = byCatalogue (ℕ-discrete (catalogueFault cat (length cells)) 0)
     where
       byRow : Good → Fit cat q → Dec (length row < cat .m) → Way
       byRow L g (yes h) = short L g h
-      byRow L g (no h) = works L g (omega arith)
+      byRow L g (no h) = works (L, g, omega arith)
 
       byFit : Good → (unfit cat q ≡ true) ⊎ (unfit cat q ≡ false) → Way
       byFit L (inl e) = unfits L (λ g. clash e (unfit-iff cat q .1 g))
@@ -136,8 +184,11 @@ module _ (cat : Catalogue) (cells : List ℕ) (b : ℕ) (q : State) (row : List 
   met-says : (k : ℕ) → callFault cat (length cells) q row ≡ k → (k ≡ 0 → ⊥) → call cat cells b q row .says ≡ refused k
   met-says k e h = ap (λ (s : Called). s .says) (call-refused cat cells b q row k e h)
 
-  work-says : Good → Fit cat q → cat .m ≤ length row → call cat cells b q row .says ≡ work cat cells b q row .says
-  work-says L g h = ap (λ (s : Called). s .says) (call-works cat cells b q row (call-free cat (length cells) q row L g h))
+  call-work : Ready cat cells q row → call cat cells b q row ≡ work cat cells b q row
+  call-work (L, g, h) = call-works cat cells b q row (call-free cat (length cells) q row L g h)
+
+  work-says : Ready cat cells q row → call cat cells b q row .says ≡ work cat cells b q row .says
+  work-says y = ap (λ (s : Called). s .says) (call-work y)
 
   faulty-says : (catalogueFault cat (length cells) ≡ 0 → ⊥) → call cat cells b q row .says ≡ refused (catalogueFault cat (length cells))
   faulty-says h = met-says (catalogueFault cat (length cells)) (call-catalogue cat (length cells) q row h) h
@@ -148,43 +199,89 @@ module _ (cat : Catalogue) (cells : List ℕ) (b : ℕ) (q : State) (row : List 
   short-says : Good → Fit cat q → length row < cat .m → call cat cells b q row .says ≡ refused 11
   short-says L g h = met-says 11 (call-short cat (length cells) q row L g h) (λ z. absurd (omega arith))
 
-  told : (k : ℕ) → 8 < k → call cat cells b q row .says ≡ refused k → Told k
-  told k l e = by way
+  -- Why a call says what it says, beside the catalogue.
+  abbrev Told : Says → Type 0
+  Told (refused k) =
+      Case 13 k (Good × (Fit cat q → ⊥))
+      (Case 11 k (Good × Fit cat q × (length row < cat .m))
+      (Case 12 k (Ready cat cells q row × Stops cat cells full b q)
+      (Case 14 k (Ready cat cells q row × (Stops cat cells damaged b q ⊎ Due cat cells false b q))
+      ((k ≡ 4) ⊎ (k ≡ 5) ⊎ (k ≡ 6) ⊎ (k ≡ 8)))))
+  Told aSet = Ready cat cells q row × Due cat cells true b q
+  Told finished = Ready cat cells q row × Ends cat cells b q
+  Told working = Ready cat cells q row × Spent cat cells b q
+
+  -- The catalogue's refusals are none of the others.
+  told-low : (k : ℕ) → (k ≡ 4) ⊎ (k ≡ 5) ⊎ (k ≡ 6) ⊎ (k ≡ 8) → Told (refused k)
+  told-low k (inl e) = subst (λ (k : ℕ). Told (refused k)) (sym e) (inl refl)
+  told-low k (inr (inl e)) = subst (λ (k : ℕ). Told (refused k)) (sym e) (inr (inl refl))
+  told-low k (inr (inr (inl e))) = subst (λ (k : ℕ). Told (refused k)) (sym e) (inr (inr (inl refl)))
+  told-low k (inr (inr (inr e))) = subst (λ (k : ℕ). Told (refused k)) (sym e) (inr (inr (inr refl)))
+
+  told : Told (call cat cells b q row .says)
+  told = by way
     where
-      met : (j : ℕ) → call cat cells b q row .says ≡ refused j → j ≡ k
-      met j d = same-refusal j k (sym d ∙ e)
+      atWork : Ready cat cells q row → (s : Says) → Why cat cells b q s → Told s
+      atWork y (refused r) (inl (z, x)) = subst (λ (k : ℕ). Told (refused k)) (sym z) (y, x)
+      atWork y (refused r) (inr (z, x)) = subst (λ (k : ℕ). Told (refused k)) (sym z) (y, x)
+      atWork y aSet x = (y, x)
+      atWork y finished x = (y, x)
+      atWork y working x = (y, x)
 
-      atWork : Good → Fit cat q → cat .m ≤ length row → Why cat cells b q (refused k) → Told k
-      atWork L g h (inl (z, x)) = subst Told (sym z) (L, g, h, x)
-      atWork L g h (inr (z, x)) = subst Told (sym z) (L, g, h, x)
+      by : Way → Told (call cat cells b q row .says)
+      by (faulty n) = subst Told (sym (faulty-says n)) (told-low (catalogueFault cat (length cells)) (catalogue-four cat (length cells) n))
+      by (unfits L n) = subst Told (sym (unfit-says L n)) (L, n)
+      by (short L g h) = subst Told (sym (short-says L g h)) (L, g, h)
+      by (works y) = subst Told (sym (work-says y)) (atWork y (work cat cells b q row .says) (why cat cells row b q))
 
-      by : Way → Told k
-      by (faulty n) = absurd (omega (arith, catalogue-low cat (length cells) k (met (catalogueFault cat (length cells)) (faulty-says n))))
-      by (unfits L n) = subst Told (met 13 (unfit-says L n)) (L, n)
-      by (short L g h) = subst Told (met 11 (short-says L g h)) (L, g, h)
-      by (works L g h) = atWork L g h (subst (Why cat cells b q) (sym (work-says L g h) ∙ e) (why cat cells row b q))
+  -- Where it says a, why it does.
+  abbrev because : (a : Says) → call cat cells b q row .says ≡ a → Told a
+  because a e = subst Told e told
 
-  -- At work, nothing is refused but by 12 and 14.
-  pub at-work : Good → Fit cat q → cat .m ≤ length row → (r : ℕ) → call cat cells b q row .says ≡ refused r → (r ≡ 12) ⊎ (r ≡ 14)
-  at-work L g h r e = ⊎-elim (λ x. inl (x .0)) (λ x. inr (x .0)) (subst (Why cat cells b q) (sym (work-says L g h) ∙ e) (why cat cells row b q))
+  others : (k : ℕ) → Told (refused k) → ((k ≡ 4) ⊎ (k ≡ 5) ⊎ (k ≡ 6) ⊎ (k ≡ 8)) ⊎ (k ≡ 13) ⊎ (k ≡ 11) ⊎ (k ≡ 12) ⊎ (k ≡ 14)
+  others k x =
+      ⊎-elim (λ e. inr (inl e)) (λ y. ⊎-elim (λ e. inr (inr (inl e))) (λ z. ⊎-elim (λ e. inr (inr (inr (inl e)))) (λ u. ⊎-elim (λ e. inr (inr (inr (inr e)))) (λ v. inl v) (case-of 14 k _ _ u)) (case-of 12 k _ _ z)) (case-of 11 k _ _ y)) (case-of 13 k _ _ x)
 
-  pub call-exact : CallExact cat cells b q row
+  pub call-exact : CallExact cat cells (call cat cells) b q row
   call-exact =
       record {
         catalogue = λ k h.
             (λ e. same-refusal (catalogueFault cat (length cells)) k (sym (faulty-says h) ∙ e), λ e. faulty-says h ∙ ap refused e);
-        refusal-13 = (told 13 (omega arith), λ (L, n). unfit-says L n);
-        refusal-11 = (told 11 (omega arith), λ (L, g, h). short-says L g h);
-        refusal-12 = (told 12 (omega arith), λ (L, g, h, x). work-says L g h ∙ stops-says cat cells row b q full 12 x (λ a p. refl));
-        refusal-14 = (
-          told 14 (omega arith),
-          λ (L, g, h, x). work-says L g h ∙ ⊎-elim (λ s. stops-says cat cells row b q damaged 14 s (λ a p. refl)) (lost-says cat cells row b q) x,
+        refusal-13 = (because (refused 13), λ (L, n). unfit-says L n);
+        refusal-11 = (because (refused 11), λ (L, g, h). short-says L g h);
+        refusal-12 = (
+          λ e. let (y, (a, p, w, d, f)) = because (refused 12) e in (y, (a, p, w, d, trial-full-iff cat cells p .0 f)),
+          λ (y, (a, p, w, d, f)). work-says y ∙ stops-says cat cells row b q full 12 (a, p, w, d, trial-full-iff cat cells p .1 f) (λ a p. refl),
         );
+        refusal-14 = (
+          λ e. let (y, x) = because (refused 14) e in (y, ⊎-elim (λ (a, p, w, d, f). inl (a, p, w, d, trial-damaged-iff cat cells p .0 f)) (λ (a, p, w, d, f). inr (a, p, w, d, iff-no (named cat (keyDue p)) (named-iff cat (keyDue p)) .0 f)) x),
+          λ (y, x).
+              work-says y
+              ∙ ⊎-elim (λ (a, p, w, d, f). stops-says cat cells row b q damaged 14 (a, p, w, d, trial-damaged-iff cat cells p .1 f) (λ a p. refl))
+              (λ (a, p, w, d, f). lost-says cat cells row b q (a, p, w, d, iff-no (named cat (keyDue p)) (named-iff cat (keyDue p)) .1 f)) x,
+        );
+        a-set = (
+          λ e. let (y, (a, p, w, d, f)) = because aSet e in (y, (a, p, w, d, named-iff cat (keyDue p) .0 f)),
+          λ (y, (a, p, w, d, f)). work-says y ∙ hands-says cat cells row b q (a, p, w, d, named-iff cat (keyDue p) .1 f),
+        );
+        at-end = (because finished, λ (y, x). work-says y ∙ ends-says cat cells row b q x);
+        at-work = (because working, λ (y, x). work-says y ∙ spent-says cat cells row b q x);
+        no-other = λ k e. others k (because (refused k) e);
       }
+
+  pub call-stands : (call cat cells b q row .says ≡ aSet → ⊥) → Stands cat cells b q row (call cat cells b q row)
+  call-stands n = by (callFault cat (length cells) q row) refl
+    where
+      by : (k : ℕ) → callFault cat (length cells) q row ≡ k → Stands cat cells b q row (call cat cells b q row)
+      by zero e =
+          let w = call-works cat cells b q row e in
+          subst (Stands cat cells b q row) (sym w) (work-stands cat cells row b q (λ z. n (ap (λ (s : Called). s .says) w ∙ z)))
+      by (suc k) e =
+          subst (Stands cat cells b q row) (sym (call-refused cat cells b q row (suc k) e (λ z. absurd (omega arith)))) (stands-still cat cells row b q (refused (suc k)))
 
 -- ---- open
 
-pub open-exact : (cat : Catalogue) (cells : List ℕ) (a : Asked) (keys left right : List ℕ) → OpenExact cat cells a keys left right
+pub open-exact : (cat : Catalogue) (cells : List ℕ) (a : Asked) (keys left right : List ℕ) → OpenExact cat cells a (openingFor cat cells a) keys left right
 open-exact cat cells a keys left right =
     record {
       catalogue = λ k h. (λ e. sym (given h) ∙ e, λ e. given h ∙ e);
@@ -197,14 +294,32 @@ open-exact cat cells a keys left right =
         λ (L, y, n, z). full-iff cat cells a keys left right L .1 (y, n, z),
       );
       none = opens-iff cat cells a keys left right;
+      no-other = λ k e. subst (Others) e refusals;
     }
   where
     given : (catalogueFault cat (length cells) ≡ 0 → ⊥) → openingFor cat cells a keys left right .refusal ≡ catalogueFault cat (length cells)
     given h = opening-says cat cells a keys left right ∙ open-catalogue cat (length cells) a (storeIn keys left right 0) h
+
+    Others : ℕ → Type 0
+    Others k = (k ≡ 0) ⊎ ((k ≡ 4) ⊎ (k ≡ 5) ⊎ (k ≡ 6) ⊎ (k ≡ 8)) ⊎ (k ≡ 19) ⊎ (k ≡ 12)
 
     lawful : (k : ℕ) → 8 < k → openingFor cat cells a keys left right .refusal ≡ k → Lawful cat (length cells)
     lawful k l e =
         elim (ℕ-discrete (catalogueFault cat (length cells)) 0) [
           | yes z ↦ fault-lawful cat (length cells) z
           | no h ↦ absurd (omega (arith, catalogue-low cat (length cells) k (sym (given h) ∙ e)))
+        ]
+
+    given-none : Lawful cat (length cells) → (stray cat a ≡ true) ⊎ (stray cat a ≡ false) → (total cat ≡ 0) ⊎ (0 < total cat)
+        → (roomIn (storeIn keys left right 0) ≡ 0) ⊎ (0 < roomIn (storeIn keys left right 0)) → Others (openingFor cat cells a keys left right .refusal)
+    given-none L (inl e) n r = inr (inr (inl (stray-met cat cells a keys left right L e)))
+    given-none L (inr e) (inl z) r = inl (opens-iff cat cells a keys left right .1 (L, stray-iff cat a .0 e, λ h. absurd (omega arith)))
+    given-none L (inr e) (inr h) (inl z) = inr (inr (inr (full-iff cat cells a keys left right L .1 (stray-iff cat a .0 e, h, z))))
+    given-none L (inr e) (inr h) (inr p) = inl (opens-iff cat cells a keys left right .1 (L, stray-iff cat a .0 e, λ h. p))
+
+    refusals : Others (openingFor cat cells a keys left right .refusal)
+    refusals =
+        elim (ℕ-discrete (catalogueFault cat (length cells)) 0) [
+          | yes z ↦ given-none (fault-lawful cat (length cells) z) (which (stray cat a)) (eq-zero-or-pos (total cat)) (eq-zero-or-pos (roomIn (storeIn keys left right 0)))
+          | no h ↦ subst Others (sym (given h)) (inr (inl (catalogue-four cat (length cells) h)))
         ]

@@ -15,17 +15,16 @@ use Rattle.tables.specs.declared.Catalogue.{Catalogue}
 use Rattle.tables.specs.Catalogues.{total}
 use Rattle.tables.specs.Checks.{Lawful}
 use Rattle.disjunction.specs.Sets.{MoreOf, Tables, at, Maximal}
-use Rattle.disjunction.specs.Rule.{Place}
-use Rattle.disjunction.specs.Asked.{Asked, everySet, everyWith, Sought}
+use Rattle.disjunction.specs.Asked.{Asked, Sought}
 use Rattle.disjunction.specs.Cells.{padded, Embedding, tables}
 use Rattle.disjunction.specs.Keeping.{listMoves, testsIn}
 use Rattle.disjunction.proofs.AskedLaws.{sought-maximal}
 use Rattle.disjunction.proofs.CellLaws.{padded-long, padded-embedding}
-use Rattle.rows.specs.World.{cellsIn, worldOf, setOf}
+use Rattle.rows.specs.World.{cellsIn, setOf}
 use Rattle.rows.proofs.WorldLaws.{world-tables}
 use Rattle.store.specs.Store.{storeIn, roomIn}
-use Rattle.machine.specs.Machine.{State, keyAt, deepest, Says, aSet, finished, refused, Called, paddedIn, work, call, openingFor, opening, openingRow}
-use Rattle.machine.specs.Runs.{Given, runOf, keysIn, handed, sum}
+use Rattle.machine.specs.Machine.{State, keyAt, deepest, Says, aSet, finished, refused, Called, paddedIn, work, call, openingFor}
+use Rattle.machine.specs.Runs.{Given, keysIn, handed, sum}
 use Rattle.machine.proofs.WorkLaws.{work-ends, work-hands, RowBy}
 use Rattle.claims.specs.Demands.{Answered, Closes, Able, made, Padded, Holds, goesOn, Gap, Demand2, Demand3, Demands}
 use Rattle.claims.proofs.Live.{W, maximal-set}
@@ -217,33 +216,3 @@ demands cat cells a keys left right e =
     let c = roomIn (storeIn keys left right 0) in
     let q = openingFor cat cells a keys left right .after in
     (demand2 cat cells a L c q o, demand3 cat cells a L c q o)
-
--- ---- the two streams
-
-module _ (cat : Catalogue) (cells : List ℕ) where
-  -- Document 01's: with `everySet`, what the demands call sought is `Maximal`, word for word.
-  pub every-drained : (k l r : List ℕ) → opening cat cells k l r .refusal ≡ 0 → (gs : List Given)
-      → Answered finished (runOf (call cat cells) gs (opening cat cells k l r .after))
-      → (T : List ℕ) → Maximal (worldOf cat cells) T → List·Memᴰ (keyOf bitsPerRow T) (handed (runOf (call cat cells) gs (opening cat cells k l r .after)))
-  every-drained k l r e gs = demands cat cells everySet k l r e .0 .every gs
-
-  -- #109: "hands out exactly the maximal sets holding it, each once".
-  pub record RowDrained (s : Place) (keys : List ℕ) : Type 0 where
-    pub once : Distinct keys
-    pub exactly : (T : List ℕ) → (Maximal (worldOf cat cells) T × (at T (s .table) ≡ s .row)) ↔ (List·Memᴰ (keyOf bitsPerRow T) keys × (setOf cat (keyOf bitsPerRow T) ≡ T))
-
-  pub row-drained : (s : Place) (k l r : List ℕ) → openingRow cat cells s k l r .refusal ≡ 0 → (gs : List Given)
-      → Answered finished (runOf (call cat cells) gs (openingRow cat cells s k l r .after))
-      → RowDrained s (handed (runOf (call cat cells) gs (openingRow cat cells s k l r .after)))
-  row-drained s k l r e gs f =
-      let d = demands cat cells (everyWith s) k l r e .0 in
-      record {
-        once = d .once gs;
-        exactly = λ T. (
-          λ x. (d .every gs f T x, d .named T (x .0)),
-          λ m.
-              let (U, x, z) = d .only gs (keyOf bitsPerRow T) (m .0) in
-              let q : U ≡ T = sym (d .named U (x .0)) ∙ ap (setOf cat) (sym z) ∙ m .1 in
-              subst (λ (X : List ℕ). Maximal (worldOf cat cells) X × (at X (s .table) ≡ s .row)) q x,
-        );
-      }

@@ -2,6 +2,7 @@
 use Prim.Native.Nat.{ℕ}
 use native.Mathlib.Omega.{arith}
 use mathlib.Core.Path.{_≡_, refl, sym, ap, ap₂, _∙_}
+use mathlib.Core.Bool.{Bool}
 use mathlib.Core.List.{List}
 use Rattle.disjunction.specs.Rule.{Place}
 use Rattle.disjunction.specs.Asked.{Asked, everySet, everyWith}
@@ -11,16 +12,18 @@ use Rattle.stream.specs.declared.Answer.{Answer}
 use Rattle.stream.specs.declared.Answer.the-variants.{Set, Finished, Working, Refused}
 use Rattle.stream.specs.declared.OpenAnswer.{OpenAnswer}
 use Rattle.stream.specs.declared.StepAnswer.{StepAnswer}
-use Rattle.stream.specs.declared.RowOpenAnswer.{RowOpenAnswer}
-use Rattle.stream.specs.declared.RowStepAnswer.{RowStepAnswer}
-use Rattle.stream.specs.Promises.{stateWith, saysOf, calledWith, calledOf, calledRow, openedWith, openedRow}
+use Rattle.stream.specs.declared.HoldingOpenAnswer.{HoldingOpenAnswer}
+use Rattle.stream.specs.declared.HoldingStepAnswer.{HoldingStepAnswer}
+use Rattle.stream.specs.declared.HoldingRecord.{HoldingRecord}
+use Rattle.stream.specs.Promises.{heldBy, stateWith, saysOf, calledWith, calledOf, calledHolding, openedWith, openedHolding}
 use Rattle.harbour.specs.declared.NextAnswer.{NextAnswer}
-use Rattle.harbour.specs.Answers.{withRecord}
-use Rattle.image.specs.declared.Loaded.{Loaded}
-use Rattle.image.specs.declared.Written.{Written}
-use Rattle.image.specs.Load.{firstTable, tablesCodes, cellsAfter, Loads}
-use Rattle.image.specs.Write.{imageOf, bytesAfter, Writes}
+use Rattle.harbour.specs.Answers.{withRecord, withHolding}
+use Rattle.loader.specs.declared.Loaded.{Loaded}
+use Rattle.writer.specs.declared.Written.{Written}
+use Rattle.loader.specs.Load.{firstTable, tablesCodes, cellsAfter, Loads}
+use Rattle.writer.specs.Write.{imageOf, bytesAfter, Writes}
 use Rattle.tables.specs.declared.Catalogue.{Catalogue}
+use Rattle.abi.specs.Streams.{Opening, Calling}
 use Rattle.claims.specs.Outcomes.{OneOutcome}
 
 -- ---- the image
@@ -39,7 +42,7 @@ writes-one cat cells lent r r′ after after′ l l′ =
 -- ---- the stream
 
 -- A state tells its record and its lists.
-state-one : (v v′ : Asked) (s s′ : StreamRecord) (ks ls rs ks′ ls′ rs′ : List ℕ) → stateWith v s ks ls rs ≡ stateWith v′ s′ ks′ ls′ rs′
+pub state-one : (v v′ : Asked) (s s′ : StreamRecord) (ks ls rs ks′ ls′ rs′ : List ℕ) → stateWith v s ks ls rs ≡ stateWith v′ s′ ks′ ls′ rs′
     → (s ≡ s′) × (ks ≡ ks′) × (ls ≡ ls′) × (rs ≡ rs′)
 state-one v v′ s s′ ks ls rs ks′ ls′ rs′ e =
     let f : s .found ≡ s′ .found = ap (λ (q : State). q .store .found) e in
@@ -128,25 +131,77 @@ row-one t r t′ r′ e = (ap (λ (a : Asked). row a .table) e, ap (λ (a : Aske
     row everySet = record { table = 0; row = 0 }
     row (everyWith s) = s
 
-row-opens-one : (r r′ : RowOpenAnswer) (ks ls rs ks′ ls′ rs′ : List ℕ) → openedRow r ks ls rs ≡ openedRow r′ ks′ ls′ rs′
-    → (r ≡ r′) × (ks ≡ ks′) × (ls ≡ ls′) × (rs ≡ rs′)
-row-opens-one r r′ ks ls rs ks′ ls′ rs′ e =
-    let q = opens-one _ _ (r .opened) (r′ .opened) ks ls rs ks′ ls′ rs′ e in
-    let (t, n) = row-one (r .table) (r .row) (r′ .table) (r′ .row) (ap (λ (o : Opened). o .after .asked) e) in
-    (ap (λ (o : OpenAnswer). made o (r .table) (r .row)) (q .0) ∙ ap₂ (made (r′ .opened)) t n, q .1, q .2, q .3)
+-- Two records that name a row are one where the streams in them are, and what they are asked for is.
+record-one : (s s′ : HoldingRecord) → s .stream ≡ s′ .stream → heldBy s ≡ heldBy s′ → s ≡ s′
+record-one s s′ e a =
+    let (t, n) = row-one (s .table) (s .row) (s′ .table) (s′ .row) a in
+    ap (λ (x : StreamRecord). made x (s .table) (s .row)) e ∙ ap₂ (made (s′ .stream)) t n
   where
-    made : OpenAnswer → ℕ → ℕ → RowOpenAnswer
-    made o t n = record { opened = o; table = t; row = n }
+    made : StreamRecord → ℕ → ℕ → HoldingRecord
+    made x t n = record { stream = x; table = t; row = n }
 
-row-steps-one : (r r′ : RowStepAnswer) (ks ls rs w ks′ ls′ rs′ w′ : List ℕ) → calledRow r ks ls rs w ≡ calledRow r′ ks′ ls′ rs′ w′
-    → (r ≡ r′) × (ks ≡ ks′) × (ls ≡ ls′) × (rs ≡ rs′) × (w ≡ w′)
-row-steps-one r r′ ks ls rs w ks′ ls′ rs′ w′ e =
-    let q = steps-one _ _ (r .step) (r′ .step) ks ls rs w ks′ ls′ rs′ w′ e in
-    let (t, n) = row-one (r .table) (r .row) (r′ .table) (r′ .row) (ap (λ (c : Called). c .after .asked) e) in
-    (ap (λ (o : StepAnswer). made o (r .table) (r .row)) (q .0) ∙ ap₂ (made (r′ .step)) t n, q .1, q .2, q .3, q .4)
+holding-opens-one : (r r′ : HoldingOpenAnswer) (ks ls rs ks′ ls′ rs′ : List ℕ) → openedHolding r ks ls rs ≡ openedHolding r′ ks′ ls′ rs′
+    → (r ≡ r′) × (ks ≡ ks′) × (ls ≡ ls′) × (rs ≡ rs′)
+holding-opens-one r r′ ks ls rs ks′ ls′ rs′ e =
+    let q = opens-one _ _ (plain r) (plain r′) ks ls rs ks′ ls′ rs′ e in
+    let s = record-one (r .stream) (r′ .stream) (ap (λ (o : OpenAnswer). o .stream) (q .0)) (ap (λ (o : Opened). o .after .asked) e) in
+    (ap (λ (o : OpenAnswer). made o (r .stream)) (q .0) ∙ ap (made (plain r′)) s, q .1, q .2, q .3)
   where
-    made : StepAnswer → ℕ → ℕ → RowStepAnswer
-    made o t n = record { step = o; table = t; row = n }
+    plain : HoldingOpenAnswer → OpenAnswer
+    plain o = record { refusal = o .refusal; stream = o .stream .stream; tests = o .tests }
+
+    made : OpenAnswer → HoldingRecord → HoldingOpenAnswer
+    made o s = record { refusal = o .refusal; stream = s; tests = o .tests }
+
+holding-steps-one : (r r′ : HoldingStepAnswer) (ks ls rs w ks′ ls′ rs′ w′ : List ℕ) → calledHolding r ks ls rs w ≡ calledHolding r′ ks′ ls′ rs′ w′
+    → (r ≡ r′) × (ks ≡ ks′) × (ls ≡ ls′) × (rs ≡ rs′) × (w ≡ w′)
+holding-steps-one r r′ ks ls rs w ks′ ls′ rs′ w′ e =
+    let q = steps-one _ _ (plain r) (plain r′) ks ls rs w ks′ ls′ rs′ w′ e in
+    let s = record-one (r .stream) (r′ .stream) (ap (λ (o : StepAnswer). o .stream) (q .0)) (ap (λ (c : Called). c .after .asked) e) in
+    (ap (λ (o : StepAnswer). made o (r .stream)) (q .0) ∙ ap (made (plain r′)) s, q .1, q .2, q .3, q .4)
+  where
+    plain : HoldingStepAnswer → StepAnswer
+    plain o = record { answer = o .answer; key = o .key; trials = o .trials; tests = o .tests; looks = o .looks; stream = o .stream .stream }
+
+    made : StepAnswer → HoldingRecord → HoldingStepAnswer
+    made o s = record { answer = o .answer; key = o .key; trials = o .trials; tests = o .tests; looks = o .looks; stream = s }
+
+holding-nexts-one : (r r′ : NextAnswer) (q q′ : HoldingRecord) (ks ls rs w ks′ ls′ rs′ w′ : List ℕ)
+    → calledHolding (withHolding r q) ks ls rs w ≡ calledHolding (withHolding r′ q′) ks′ ls′ rs′ w′
+    → (r ≡ r′) × (q ≡ q′) × (ks ≡ ks′) × (ls ≡ ls′) × (rs ≡ rs′) × (w ≡ w′)
+holding-nexts-one r r′ q q′ ks ls rs w ks′ ls′ rs′ w′ e =
+    let t = holding-steps-one (withHolding r q) (withHolding r′ q′) ks ls rs w ks′ ls′ rs′ w′ e in
+    (ap answer (t .0), ap (λ (x : HoldingStepAnswer). x .stream) (t .0), t .1, t .2, t .3, t .4)
+  where
+    answer : HoldingStepAnswer → NextAnswer
+    answer x = record { answer = x .answer; key = x .key; trials = x .trials; tests = x .tests; looks = x .looks }
+
+-- ---- the calls for C
+
+-- Of either stream.
+opening-one : {few : Bool} {o : Opened} {keys left right words : List ℕ} {r r′ : ℕ} {ks ls rs ws ks′ ls′ rs′ ws′ : List ℕ}
+    → Opening few o keys left right words r ks ls rs ws → Opening few o keys left right words r′ ks′ ls′ rs′ ws′
+    → (r ≡ r′) × (ks ≡ ks′) × (ls ≡ ls′) × (rs ≡ rs′) × (ws ≡ ws′)
+opening-one c d = (
+  c .answer ∙ sym (d .answer),
+  c .keys-after ∙ sym (d .keys-after),
+  c .left-after ∙ sym (d .left-after),
+  c .right-after ∙ sym (d .right-after),
+  c .words-after ∙ sym (d .words-after),
+)
+
+calling-one : {few : Bool} {s : Called} {keys left right words row result : List ℕ} {r r′ : ℕ} {ks ls rs ws w res ks′ ls′ rs′ ws′ w′ res′ : List ℕ}
+    → Calling few s keys left right words row result r ks ls rs ws w res → Calling few s keys left right words row result r′ ks′ ls′ rs′ ws′ w′ res′
+    → (r ≡ r′) × (ks ≡ ks′) × (ls ≡ ls′) × (rs ≡ rs′) × (ws ≡ ws′) × (w ≡ w′) × (res ≡ res′)
+calling-one c d = (
+  c .answer ∙ sym (d .answer),
+  c .keys-after ∙ sym (d .keys-after),
+  c .left-after ∙ sym (d .left-after),
+  c .right-after ∙ sym (d .right-after),
+  c .words-after ∙ sym (d .words-after),
+  c .row-after ∙ sym (d .row-after),
+  c .result-after ∙ sym (d .result-after),
+)
 
 pub determined : OneOutcome
 determined =
@@ -156,9 +211,20 @@ determined =
       «open» = λ cat cells keys left right r r′ ks ls rs ks′ ls′ rs′ e e′. opens-one everySet everySet r r′ ks ls rs ks′ ls′ rs′ (e ∙ sym e′);
       step = λ cat cells s keys left right row b r r′ ks ls rs w ks′ ls′ rs′ w′ e e′. steps-one everySet everySet r r′ ks ls rs w ks′ ls′ rs′ w′ (e ∙ sym e′);
       next = λ cat cells s keys left right row b r r′ q q′ ks ls rs w ks′ ls′ rs′ w′ e e′. nexts-one r r′ q q′ ks ls rs w ks′ ls′ rs′ w′ (e ∙ sym e′);
-      «open_row» = λ cat cells s keys left right r r′ ks ls rs ks′ ls′ rs′ e e′. row-opens-one r r′ ks ls rs ks′ ls′ rs′ (e ∙ sym e′);
-      «step_row» = λ cat cells s keys left right row b r r′ ks ls rs w ks′ ls′ rs′ w′ e e′. row-steps-one r r′ ks ls rs w ks′ ls′ rs′ w′ (e ∙ sym e′);
+      «open_holding» = λ cat cells t n keys left right r r′ ks ls rs ks′ ls′ rs′ e e′. holding-opens-one r r′ ks ls rs ks′ ls′ rs′ (e ∙ sym e′);
+      «step_holding» = λ cat cells s keys left right row b r r′ ks ls rs w ks′ ls′ rs′ w′ e e′. holding-steps-one r r′ ks ls rs w ks′ ls′ rs′ w′ (e ∙ sym e′);
+      «next_holding» = λ cat cells s keys left right row b r r′ q q′ ks ls rs w ks′ ls′ rs′ w′ e e′.
+          holding-nexts-one r r′ q q′ ks ls rs w ks′ ls′ rs′ w′ (e ∙ sym e′);
       covers = λ first second r r′ e e′. e ∙ sym e′;
       «check_list» = λ cat cells words r r′ e e′. e ∙ sym e′;
       check = λ s r r′ e e′. e ∙ sym e′;
+      «harbour_load» = λ image cells words r r′ cs ws cs′ ws′ c d.
+          (c .answer ∙ sym (d .answer), c .cells-after ∙ sym (d .cells-after), c .words-after ∙ sym (d .words-after));
+      «harbour_write» = λ words cells out r r′ o o′ c d. (c .answer ∙ sym (d .answer), c .bytes-after ∙ sym (d .bytes-after));
+      «harbour_open» = λ catalogue cells keys left right words r r′ ks ls rs ws ks′ ls′ rs′ ws′ c d. opening-one c d;
+      «harbour_next» = λ catalogue cells keys left right words b row result r r′ ks ls rs ws w res ks′ ls′ rs′ ws′ w′ res′ c d. calling-one c d;
+      «harbour_open_holding» = λ catalogue cells keys left right t n words r r′ ks ls rs ws ks′ ls′ rs′ ws′ c d. opening-one c d;
+      «harbour_next_holding» = λ catalogue cells keys left right words b row result r r′ ks ls rs ws w res ks′ ls′ rs′ ws′ w′ res′ c d. calling-one c d;
+      «harbour_covers» = λ first second r r′ c d. c ∙ sym d;
+      «harbour_check_list» = λ catalogue cells listed result r r′ w w′ c d. (c .answer ∙ sym (d .answer), c .result-after ∙ sym (d .result-after));
     }

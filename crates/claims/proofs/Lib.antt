@@ -1,13 +1,18 @@
 pub mod Live
 pub mod Calls
 pub mod Opens
+pub mod Searching
 pub mod Exact
 pub mod Runs
 pub mod Steps
 pub mod Holding
 pub mod Demanded
+pub mod Held
 pub mod Copies
 pub mod Longers
+pub mod Alike
+pub mod Trimmed
+pub mod Refused
 pub mod Frauds
 pub mod Edged
 pub mod Determined
@@ -19,6 +24,8 @@ pub mod CatalogueExactly
 pub mod CallExactly
 pub mod RowsExactly
 pub mod WriteExactly
+pub mod InARow
 pub mod Imaged
+pub mod ForC
 pub mod ListChecked
 pub mod ListSample

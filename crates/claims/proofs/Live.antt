@@ -18,14 +18,14 @@ use Rattle.tables.specs.Catalogues.{total}
 use Rattle.tables.specs.Checks.{Lawful}
 use Rattle.disjunction.specs.Sets.{MoreOf, Tables, Maximal}
 use Rattle.disjunction.specs.Rule.{Grown, rows, rowAt, trial}
-use Rattle.disjunction.specs.Asked.{Asked, everySet, everyWith, wanted, Sought, Present}
+use Rattle.disjunction.specs.Asked.{Asked, wanted, Sought}
 use Rattle.disjunction.specs.Keeping as Sets
 use Rattle.disjunction.specs.Keeping.{keep, keepIf, trialNow, try}
 use Rattle.disjunction.proofs.KeepingLaws.{Going, going-sought, next-maximal, going-try, keep-had, keep-new, keepIf-yes, keepIf-no}
 use Rattle.rows.specs.World.{worldOf, setOf}
 use Rattle.rows.specs.Named.{Named}
 use Rattle.rows.proofs.WorldLaws.{world-symmetric, rows-total}
-use Rattle.rows.proofs.NamedLaws.{named-iff, valid-set, valid-named, there-row}
+use Rattle.rows.proofs.NamedLaws.{named-iff, valid-set, valid-named}
 use Rattle.store.specs.Store.{roomIn, searchOf, filed, added, answerOf, storeAfter}
 use Rattle.store.specs.declared.Looked.{Looked}
 use Rattle.store.specs.declared.Looked.the-variants.{Found, Absent, Damaged}
@@ -39,11 +39,6 @@ use Rattle.machine.proofs.TrialLaws.{Bound, Bounded, trial-bounded}
 module _ (cat : Catalogue) (cells : List ℕ) where
   abbrev pub W : Tables
   W = worldOf cat cells
-
-  -- The row asked for is there, for the rule.
-  pub able-there : (a : Asked) → Askable cat a → Present W a
-  able-there everySet h = tt
-  able-there (everyWith s) h = there-row cat cells (s .table) (s .row) h
 
   -- The state as the rule over a list of sets has it.
   abbrev pub listed : List (List ℕ) → State → Sets.State

@@ -24,10 +24,11 @@ use Rattle.disjunction.proofs.AskedLaws.{sought-maximal, first-there, first-wan
 use Rattle.rows.proofs.WorldLaws.{world-symmetric, rows-total}
 use Rattle.store.specs.Store.{storeIn, roomIn, filed}
 use Rattle.store.proofs.StoreLaws.{started, room-filed}
+use Rattle.machine.proofs.CountLaws.{able-there}
 use Rattle.machine.specs.Machine.{State, stateFor, stray, Askable, openFault, firstGrown, openingFor}
 use Rattle.machine.proofs.RefusalLaws.{stray-iff, open-stray, open-full, open-free, open-clear, opening-says, opening-empty, opening-begun}
 use Rattle.claims.specs.Demands.{OpenFull}
-use Rattle.claims.proofs.Live.{W, able-there, Live, maximal-named}
+use Rattle.claims.proofs.Live.{W, Live, maximal-named}
 use Rattle.claims.proofs.Calls.{Sound, listOf}
 
 -- `a` is what the stream is asked for.

@@ -21,10 +21,11 @@ use Rattle.disjunction.proofs.KeepingLaws as Kept
 use Rattle.disjunction.proofs.KeepingLaws.{none-jcc}
 use Rattle.disjunction.proofs.AskedLaws.{sought-maximal}
 use Rattle.rows.proofs.WorldLaws.{world-symmetric, rows-total}
+use Rattle.machine.proofs.CountLaws.{able-there}
 use Rattle.machine.specs.Machine.{State, keyAt, Says, aSet, finished, working, refused, Called, call}
 use Rattle.machine.specs.Runs.{Given, runOf, endedOf, keysIn, handed, sum}
 use Rattle.claims.specs.Demands.{Answered, Closes, Able, Patient}
-use Rattle.claims.proofs.Live.{W, able-there, listed, Live}
+use Rattle.claims.proofs.Live.{W, listed, Live}
 use Rattle.claims.proofs.Calls.{takenKeys, Sound, ToSet, ToEnd, OnWay, Said, Went, record-sought, called}
 
 module _ (cat : Catalogue) (cells : List ℕ) where

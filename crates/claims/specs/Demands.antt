@@ -9,7 +9,7 @@ use Rattle.laws.specs.Distinct.{Distinct}
 use Rattle.keys.specs.Keys.{bitsPerRow, keyOf}
 use Rattle.tables.specs.declared.Catalogue.{Catalogue}
 use Rattle.tables.specs.Catalogues.{total}
-use Rattle.tables.specs.Checks.{Lawful, catalogueFault}
+use Rattle.tables.specs.Checks.{Lawful}
 use Rattle.disjunction.specs.Sets.{MoreOf, Maximal}
 use Rattle.disjunction.specs.Asked.{Asked, Sought}
 use Rattle.disjunction.specs.Cells.{Embedding}
@@ -19,31 +19,25 @@ use Rattle.rows.specs.World.{cellsIn, worldOf, setOf}
 use Rattle.store.specs.Store.{Store, storeIn, roomIn}
 use Rattle.store.specs.Store as Store
 use Rattle.machine.specs.Machine.{State, keyAt, deepest, Says, aSet, finished, working, refused, Called, answer, Askable, Fit, callFault, call, zeros, Opened, openingFor}
+use Rattle.claims.specs.CallRefusals.{CallExact, Stands, OpenExact}
 use Rattle.machine.specs.Runs.{Given, runOf, endedOf, handed, sum, moves, looksIn}
 
 -- ---- demand 1: the refusals, "by the exact conditions above"
 
 -- Of any stream whose open is `begin` and whose call is `step`, on these tables.
 pub record Demand1 (cat : Catalogue) (cells : List ℕ) (asked : Asked) (begin : List ℕ → List ℕ → List ℕ → Opened) (step : ℕ → State → List ℕ → Called) : Type 0 where
-  -- Open refuses nothing exactly where the catalogue has no fault, the row asked for is there, and the store, if there is a row, has a record;
-  pub opens : (keys left right : List ℕ)
-      → (begin keys left right .refusal ≡ 0) ↔ (Lawful cat (length cells) × Askable cat asked × (0 < total cat → 0 < roomIn (storeIn keys left right 0)))
-  -- else its refusal is the catalogue's, or 19 where the row is not there, or 12 where only the record is missing.
-  pub faults : (keys left right : List ℕ) → (catalogueFault cat (length cells) ≡ 0 → ⊥) → begin keys left right .refusal ≡ catalogueFault cat (length cells)
-  pub strays : (keys left right : List ℕ) → Lawful cat (length cells) → (begin keys left right .refusal ≡ 19) ↔ (Askable cat asked → ⊥)
-  pub full : (keys left right : List ℕ) → Lawful cat (length cells)
-      → (begin keys left right .refusal ≡ 12) ↔ (Askable cat asked × (0 < total cat) × (roomIn (storeIn keys left right 0) ≡ 0))
+  -- Open gives each refusal exactly when its condition holds and no earlier one does, and none exactly where none does.
+  pub opens : (keys left right : List ℕ) → OpenExact cat cells asked begin keys left right
   -- "Refused, it gives a record of zeros and writes nothing."
   pub zeroed : (keys left right : List ℕ) → (begin keys left right .refusal ≡ 0 → ⊥)
       → (begin keys left right .after ≡ zeros asked keys left right) × (begin keys left right .tests ≡ 0)
-  -- A call, whatever the record and the store: "checks the catalogue as open does, then 13, then 11. These change nothing"; "the counts are 0";
+  -- A call gives each refusal and each other answer exactly when, whatever the record and the store, damaged ones too.
+  pub calls : (b : ℕ) (q : State) (row : List ℕ) → CallExact cat cells step b q row
+  -- "Checks the catalogue as open does, then 13, then 11. These change nothing"; "the counts are 0".
   pub refuses : (b : ℕ) (q : State) (row : List ℕ) → (callFault cat (length cells) q row ≡ 0 → ⊥)
       → step b q row ≡ answer (refused (callFault cat (length cells) q row)) q row
-  -- where the catalogue has no fault, the record fits and the row is long enough, "12 and 14 may then be met", and no other.
-  pub works : (b : ℕ) (q : State) (row : List ℕ) → Lawful cat (length cells) → Fit cat q → cat .m ≤ length row
-      → (r : ℕ) → step b q row .says ≡ refused r → (r ≡ 12) ⊎ (r ≡ 14)
-  -- "Only *set* writes the padded row; otherwise the key given is 0."
-  pub quiet : (b : ℕ) (q : State) (row : List ℕ) → (step b q row .says ≡ aSet → ⊥) → (step b q row .key ≡ 0) × (step b q row .row ≡ row)
+  -- "A stream refused at work stands exactly after its last finished trial", and so does one that answers anything but a set.
+  pub stands : (b : ℕ) (q : State) (row : List ℕ) → (step b q row .says ≡ aSet → ⊥) → Stands cat cells b q row (step b q row)
 
 -- ---- words
 

@@ -4,11 +4,15 @@ use Prim.Native.Nat.{ℕ}
 use mathlib.Core.Path.{_≡_}
 use mathlib.Core.Bool.{false}
 use mathlib.Core.List.{List, [], _∷_}
-use lib.ListN.{replicate}
+use lib.ListN.{length, replicate}
+use Rattle.laws.specs.Lists.{put}
 use Rattle.tables.specs.declared.Catalogue.{Catalogue}
+use Rattle.tables.specs.Sample.{sampleBytes, three, threeCells}
 use Rattle.tables.specs.Sizes.{mostCells}
 use Rattle.rows.specs.World.{fitsIn}
-use Rattle.image.specs.Load.{firstTable, scanOf, tablesCodes}
+use Rattle.loader.specs.declared.Loaded.{Loaded}
+use Rattle.loader.specs.Load.{firstTable, scanOf, tablesCodes, Loads}
+use Rattle.image.specs.RoundTrip.{found}
 use Rattle.image.specs.Edges.{NumberEdges, ImageEdges}
 use Rattle.machine.specs.Machine.{Says, aSet, finished, Called, call, opening}
 use Rattle.machine.specs.Runs.{Given, runOf, handed}
@@ -17,11 +21,11 @@ use Rattle.machine.specs.Runs.{Given, runOf, handed}
 abbrev pub twoTrials : Given
 twoTrials = record { budget = 2; row = 0 ∷ [] }
 
--- The calls of a stream on what an image loads to, in a store of four records that starts as zeros.
+-- The calls of a stream on what an image loads to, in the 8,192 lent cells as the load leaves them, and in a store of four records that starts as zeros.
 unfoldable pub callsOn : List ℕ → List Given → List Called
 callsOn image gs =
     let cat = scanOf image mostCells .catalogue in
-    let cells = tablesCodes (cat .n) image firstTable in
+    let cells = put (tablesCodes (cat .n) image firstTable) (replicate mostCells 0) in
     runOf (call cat cells) gs (opening cat cells (replicate 4 0) (replicate 4 0) (replicate 4 0) .after)
 
 -- What calls answer.
@@ -46,3 +50,8 @@ pub record Edges : Type 0 where
   pub values-whole : fitsIn pair (11 ∷ 4294967307 ∷ []) 0 1 1 1 ≡ false
   -- "P Null and null are not."
   pub nulls-apart : fitsIn pair (0 ∷ 0 ∷ []) 0 1 1 1 ≡ false
+
+-- "Input, 25 bytes": a load of it into 8,192 cells finds the sample's tables, on which the crates below compute, and puts their cells in front of the others.
+abbrev pub SampleLoads : Type 0
+SampleLoads =
+    (lent after : List ℕ) (r : Loaded) → length lent ≡ mostCells → Loads sampleBytes lent r after → (r ≡ found three) × (after ≡ put threeCells lent)

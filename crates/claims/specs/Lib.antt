@@ -5,5 +5,11 @@ pub mod LoadRefusals
 pub mod CatalogueRefusals
 pub mod WriteRefusals
 pub mod CallRefusals
+pub mod CallsInRow
 pub mod Images
+pub mod Frauds
+pub mod Ignored
+pub mod Unchanged
+pub mod CallsForC
+pub mod Holdings
 pub mod ListChecks

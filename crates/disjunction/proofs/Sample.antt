@@ -1,5 +1,4 @@
--- Whole examples, computed by the definitions: document 01's input of 25 bytes with its row tests, the four joins that go astray there, and document
--- 000's Example 2.3. That the sets found are all the maximal ones is `drained-all`. Assumes nothing.
+-- Whole examples, computed by the definitions: the four joins that go astray in document 01, and document 000's Example 2.3. That the sets found are all the maximal ones is `drained-all`. Assumes nothing.
 use Prim.Native.Nat.{ℕ, _+_, _-_}
 use native.Mathlib.Omega.{arith}
 use native.Mathlib.Decide.{ℕ-discrete}
@@ -42,15 +41,6 @@ cellsOf m schemes tables =
 
 -- ---- the tables
 
--- "Input, 25 bytes."
-three : Cells
-three =
-    cellsOf 3 ((0 ∷ 1 ∷ []) ∷ (1 ∷ 2 ∷ []) ∷ (0 ∷ 2 ∷ []) ∷ [])
-    (((2 ∷ 11 ∷ []) ∷ (3 ∷ 21 ∷ []) ∷ [])
-    ∷ ((11 ∷ 8 ∷ []) ∷ (4294967307 ∷ 10 ∷ []) ∷ [])
-    ∷ ((2 ∷ 8 ∷ []) ∷ (3 ∷ 0 ∷ []) ∷ [])
-    ∷ [])
-
 -- "Rows without a shared attribute are put in one set with nothing between them. That is a product."
 apart : Cells
 apart = cellsOf 2 ((0 ∷ []) ∷ (1 ∷ []) ∷ []) (((2 ∷ []) ∷ []) ∷ ((2 ∷ []) ∷ []) ∷ [])
@@ -79,10 +69,6 @@ four =
 
 -- ---- their sets
 
--- "set 1 1 1", "set 2 0 2", "set 0 2 0".
-abbrev threeSets : List (List ℕ)
-threeSets = (1 ∷ 1 ∷ 1 ∷ []) ∷ (2 ∷ 0 ∷ 2 ∷ []) ∷ (0 ∷ 2 ∷ 0 ∷ []) ∷ []
-
 -- "MaxJCC(R) comprises the following six tuple sets": t1 u1 v1, t2 v2 w2, t3 v1, u2 v2 w2, t1 u1 w1, t3 w1.
 abbrev fourSets : List (List ℕ)
 fourSets =
@@ -94,58 +80,47 @@ fourSets =
     ∷ (3 ∷ 0 ∷ 0 ∷ 1 ∷ [])
     ∷ []
 
--- "tables 3 3 6 14": open's row tests.
-three-open : extension (tables three) (alone (tables three) (rowAt (tables three) 0)) ≡ record { rows = 1 ∷ 1 ∷ 1 ∷ []; tests = 14 }
-unfolding extension grow walk rowTest near agrees absent member rowsBelow rowsTo alone sharing matching same any all three cellsOf holds codeAt
-three-open = refl
-
 -- The stream over C is at its end after so many trials, and a step for each set, with so many row tests; it has found the sets of l in this order.
 abbrev Ends : Cells → List (List ℕ) → ℕ → ℕ → Type 0
 Ends C l trials tests =
     (listMoves (tables C) everySet (trials + length l) (listOpen (tables C) everySet) ≡ ended (tables C) l)
     × (testsIn (tables C) everySet (trials + length l) (listOpen (tables C) everySet) ≡ tests)
 
--- "end 3 18 160" is the first's.
-drained : Ends three threeSets 18 160
-    × Ends apart ((1 ∷ 0 ∷ []) ∷ (0 ∷ 1 ∷ []) ∷ []) 4 8
+drained : Ends apart ((1 ∷ 0 ∷ []) ∷ (0 ∷ 1 ∷ []) ∷ []) 4 8
     × Ends later ((1 ∷ 1 ∷ 1 ∷ []) ∷ []) 3 9
     × Ends twins ((1 ∷ 0 ∷ []) ∷ (0 ∷ 1 ∷ []) ∷ []) 4 8
     × Ends early ((1 ∷ 0 ∷ 1 ∷ []) ∷ (0 ∷ 1 ∷ 1 ∷ []) ∷ []) 6 18
     × Ends four fourSets 54 770
-unfolding listMoves listMove listTests testsIn listOpen try take keepIf keep stored decMemᴰ sets-discrete sameDec ℕ-discrete trial start piece joins membersBelow dropped stays tab extension grow walk rowTest near agrees absent member rowsBelow rowsTo alone sharing matching same any all three apart later twins early four cellsOf holds codeAt
-drained = ((refl, refl), (refl, refl), (refl, refl), (refl, refl), (refl, refl), (refl, refl))
+unfolding listMoves listMove listTests testsIn listOpen try take keepIf keep stored decMemᴰ sets-discrete sameDec ℕ-discrete trial start piece joins membersBelow dropped stays tab extension grow walk rowTest near agrees absent member rowsBelow rowsTo alone sharing matching same any all apart later twins early four cellsOf holds codeAt
+drained = ((refl, refl), (refl, refl), (refl, refl), (refl, refl), (refl, refl))
 
 -- They are all the maximal sets.
 module _ (T : List ℕ) where
-  three-sets : Maximal (tables three) T ↔ List·Memᴰ T threeSets
-  three-sets = drained-all (tables three) everySet (tables-symmetric three) tt 21 threeSets (drained .0 .0) (omega arith) T
-
   apart-sets : Maximal (tables apart) T ↔ List·Memᴰ T ((1 ∷ 0 ∷ []) ∷ (0 ∷ 1 ∷ []) ∷ [])
-  apart-sets = drained-all (tables apart) everySet (tables-symmetric apart) tt 6 ((1 ∷ 0 ∷ []) ∷ (0 ∷ 1 ∷ []) ∷ []) (drained .1 .0) (omega arith) T
+  apart-sets = drained-all (tables apart) everySet (tables-symmetric apart) tt 6 ((1 ∷ 0 ∷ []) ∷ (0 ∷ 1 ∷ []) ∷ []) (drained .0 .0) (omega arith) T
 
   later-sets : Maximal (tables later) T ↔ List·Memᴰ T ((1 ∷ 1 ∷ 1 ∷ []) ∷ [])
-  later-sets = drained-all (tables later) everySet (tables-symmetric later) tt 4 ((1 ∷ 1 ∷ 1 ∷ []) ∷ []) (drained .2 .0) (omega arith) T
+  later-sets = drained-all (tables later) everySet (tables-symmetric later) tt 4 ((1 ∷ 1 ∷ 1 ∷ []) ∷ []) (drained .1 .0) (omega arith) T
 
   twins-sets : Maximal (tables twins) T ↔ List·Memᴰ T ((1 ∷ 0 ∷ []) ∷ (0 ∷ 1 ∷ []) ∷ [])
-  twins-sets = drained-all (tables twins) everySet (tables-symmetric twins) tt 6 ((1 ∷ 0 ∷ []) ∷ (0 ∷ 1 ∷ []) ∷ []) (drained .3 .0) (omega arith) T
+  twins-sets = drained-all (tables twins) everySet (tables-symmetric twins) tt 6 ((1 ∷ 0 ∷ []) ∷ (0 ∷ 1 ∷ []) ∷ []) (drained .2 .0) (omega arith) T
 
   early-sets : Maximal (tables early) T ↔ List·Memᴰ T ((1 ∷ 0 ∷ 1 ∷ []) ∷ (0 ∷ 1 ∷ 1 ∷ []) ∷ [])
-  early-sets = drained-all (tables early) everySet (tables-symmetric early) tt 8 ((1 ∷ 0 ∷ 1 ∷ []) ∷ (0 ∷ 1 ∷ 1 ∷ []) ∷ []) (drained .4 .0) (omega arith) T
+  early-sets = drained-all (tables early) everySet (tables-symmetric early) tt 8 ((1 ∷ 0 ∷ 1 ∷ []) ∷ (0 ∷ 1 ∷ 1 ∷ []) ∷ []) (drained .3 .0) (omega arith) T
 
   four-sets : Maximal (tables four) T ↔ List·Memᴰ T fourSets
-  four-sets = drained-all (tables four) everySet (tables-symmetric four) tt 60 fourSets (drained .5 .0) (omega arith) T
+  four-sets = drained-all (tables four) everySet (tables-symmetric four) tt 60 fourSets (drained .4 .0) (omega arith) T
 
 -- ---- their padded rows
-
--- "1 10 7", "2 20 -", "- 4294967306 9".
-three-padded : (padded three (1 ∷ 1 ∷ 1 ∷ []) ≡ 2 ∷ 11 ∷ 8 ∷ []) × (padded three (2 ∷ 0 ∷ 2 ∷ []) ≡ 3 ∷ 21 ∷ 0 ∷ [])
-    × (padded three (0 ∷ 2 ∷ 0 ∷ []) ≡ 0 ∷ 4294967307 ∷ 10 ∷ [])
-unfolding padded codeBelow gives member tab any three cellsOf holds codeAt
-three-padded = (refl, refl, refl)
 
 twins-padded : padded twins (1 ∷ 0 ∷ []) ≡ padded twins (0 ∷ 1 ∷ [])
 unfolding padded codeBelow gives member tab any twins cellsOf holds codeAt
 twins-padded = refl
+
+-- "From the lowest-numbered member table with that attribute": rows 1 of tables 0 and 1 disagree on attribute 0, and table 0 gives it.
+early-padded : padded early (1 ∷ 1 ∷ 0 ∷ []) ≡ 2 ∷ 6 ∷ 8 ∷ []
+unfolding padded codeBelow gives member tab any early cellsOf holds codeAt
+early-padded = refl
 
 -- "embed(T) is the tuple t = (A : 1, B : 10, C : 1, D : 1, E : 11, F : 1, G : null)."
 four-padded : padded four (1 ∷ 1 ∷ 1 ∷ 0 ∷ []) ≡ 2 ∷ 11 ∷ 2 ∷ 2 ∷ 12 ∷ 2 ∷ 0 ∷ []

@@ -1,22 +1,24 @@
 // The public calls of the library: load and write an image, open a stream and move it on, check a list of sets, and ask whether one padded row covers another.
 // None asks anything of its caller, and each promise stands here once: one outcome for every input, refusals too.
-ghost use mathlib.Core.Path.{_≡_};
-ghost use Rattle.padding.specs.Covering.{covering};
-ghost use Rattle.image.specs.Load.{Loads};
-ghost use Rattle.image.specs.Write.{Writes};
-ghost use Rattle.machine.specs.Machine.{call, opening};
-ghost use Rattle.stream.specs.Promises.{stateOf, calledOf, openedOf};
+ghost use Rattle.padding.specs.Covering.{Covers};
+ghost use Rattle.loader.specs.Load.{Loads};
+ghost use Rattle.writer.specs.Write.{Writes};
+ghost use Rattle.stream.specs.Promises.{Opens, Steps, OpensHolding, StepsHolding};
+ghost use Rattle.harbour.specs.Answers.{Nexts, NextsHolding};
 ghost use Rattle.hub.specs.Promises.{ChecksList};
-ghost use Rattle.harbour.specs.Answers.{withRecord};
 pub use hub::ListVerdict;
-pub use image::Loaded;
-pub use image::Verdict;
-pub use image::Written;
+pub use loader::Fault;
+pub use loader::Loaded;
+pub use loader::Verdict;
 pub use stream::Answer;
+pub use stream::HoldingOpenAnswer;
+pub use stream::HoldingRecord;
+pub use stream::HoldingStepAnswer;
 pub use stream::OpenAnswer;
 pub use stream::StepAnswer;
 pub use stream::StreamRecord;
 pub use tables::Catalogue;
+pub use writer::Written;
 
 // What the thin call answers: the answer, the key of a set (else 0), its trials, row tests and looks.
 // The record is not in it: the call has moved it on where it lies.
@@ -33,7 +35,7 @@ pub struct NextAnswer {
 pub fn load(image: &[u8], cells: &mut [u64]) -> Loaded
     ensures { λ r. ⌜ Loads (now (image .entry)) (now (cells .entry)) r (now (cells .exit)) ⌝ }
 {
-    image::load(image, cells)
+    loader::load(image, cells)
 }
 
 // Writes the image of the tables into the front of the lent bytes, and gives its length.
@@ -41,7 +43,7 @@ pub fn load(image: &[u8], cells: &mut [u64]) -> Loaded
 pub fn write(cat: Catalogue, cells: &[u64], out: &mut [u8]) -> Written
     ensures { λ r. ⌜ Writes cat (now (cells .entry)) (now (out .entry)) r (now (out .exit)) ⌝ }
 {
-    image::write(cat, cells, out)
+    writer::write(cat, cells, out)
 }
 
 // Opens a stream on the tables, in the store that the three slices make.
@@ -53,7 +55,7 @@ pub fn open(
     left: &mut [u16],
     right: &mut [u16],
 ) -> OpenAnswer
-    ensures { λ r. ⌜ openedOf r (now (keys .exit)) (now (left .exit)) (now (right .exit)) ≡ opening cat (now (cells .entry)) (now (keys .entry)) (now (left .entry)) (now (right .entry)) ⌝ }
+    ensures { λ r. ⌜ Opens cat (now (cells .entry)) (now (keys .entry)) (now (left .entry)) (now (right .entry)) r (now (keys .exit)) (now (left .exit)) (now (right .exit)) ⌝ }
 {
     stream::open(cat, cells, keys, left, right)
 }
@@ -70,7 +72,7 @@ pub fn next(
     budget: usize,
     padded: &mut [u64],
 ) -> NextAnswer
-    ensures { λ r. ⌜ calledOf (withRecord r (now (stream .exit))) (now (keys .exit)) (now (left .exit)) (now (right .exit)) (now (padded .exit)) ≡ call cat (now (cells .entry)) budget (stateOf (now (stream .entry)) (now (keys .entry)) (now (left .entry)) (now (right .entry))) (now (padded .entry)) ⌝ }
+    ensures { λ r. ⌜ Nexts cat (now (cells .entry)) (now (keys .entry)) (now (left .entry)) (now (right .entry)) (now (stream .entry)) budget (now (padded .entry)) r (now (stream .exit)) (now (keys .exit)) (now (left .exit)) (now (right .exit)) (now (padded .exit)) ⌝ }
 {
     let before = *stream;
     let m = stream::step(cat, cells, keys, left, right, before, budget, padded);
@@ -96,7 +98,7 @@ pub fn step(
     budget: usize,
     padded: &mut [u64],
 ) -> StepAnswer
-    ensures { λ r. ⌜ calledOf r (now (keys .exit)) (now (left .exit)) (now (right .exit)) (now (padded .exit)) ≡ call cat (now (cells .entry)) budget (stateOf stream (now (keys .entry)) (now (left .entry)) (now (right .entry))) (now (padded .entry)) ⌝ }
+    ensures { λ r. ⌜ Steps cat (now (cells .entry)) (now (keys .entry)) (now (left .entry)) (now (right .entry)) stream budget (now (padded .entry)) r (now (keys .exit)) (now (left .exit)) (now (right .exit)) (now (padded .exit)) ⌝ }
 {
     let mut s = stream;
     let h = next(cat, cells, keys, left, right, &mut s, budget, padded);
@@ -110,10 +112,68 @@ pub fn step(
     }
 }
 
+// Opens a stream of the sets that hold one row of a table, in the store that the three slices make.
+// All that it gives, and all that the slices then hold, is the paper's open with that row for the first.
+pub fn open_holding(
+    cat: Catalogue,
+    cells: &[u64],
+    keys: &mut [u64],
+    left: &mut [u16],
+    right: &mut [u16],
+    table: usize,
+    row: usize,
+) -> HoldingOpenAnswer
+    ensures { λ r. ⌜ OpensHolding cat (now (cells .entry)) (now (keys .entry)) (now (left .entry)) (now (right .entry)) table row r (now (keys .exit)) (now (left .exit)) (now (right .exit)) ⌝ }
+{
+    stream::open_holding(cat, cells, keys, left, right, table, row)
+}
+
+// One call of a stream of the sets that hold one row: the thin call, which takes its record by `&mut` and moves it on in place.
+// All that it gives, counts too, the record that it leaves, and all that the slices then hold, is the paper's stream call.
+pub fn next_holding(
+    cat: Catalogue,
+    cells: &[u64],
+    keys: &mut [u64],
+    left: &mut [u16],
+    right: &mut [u16],
+    stream: &mut HoldingRecord,
+    budget: usize,
+    padded: &mut [u64],
+) -> NextAnswer
+    ensures { λ r. ⌜ NextsHolding cat (now (cells .entry)) (now (keys .entry)) (now (left .entry)) (now (right .entry)) (now (stream .entry)) budget (now (padded .entry)) r (now (stream .exit)) (now (keys .exit)) (now (left .exit)) (now (right .exit)) (now (padded .exit)) ⌝ }
+{
+    let before = *stream;
+    let m = stream::step_holding(cat, cells, keys, left, right, before, budget, padded);
+    *stream = m.stream;
+    NextAnswer {
+        answer: m.answer,
+        key: m.key,
+        trials: m.trials,
+        tests: m.tests,
+        looks: m.looks,
+    }
+}
+
+// The same with the record by value, for callers that a proof covers.
+pub fn step_holding(
+    cat: Catalogue,
+    cells: &[u64],
+    keys: &mut [u64],
+    left: &mut [u16],
+    right: &mut [u16],
+    stream: HoldingRecord,
+    budget: usize,
+    padded: &mut [u64],
+) -> HoldingStepAnswer
+    ensures { λ r. ⌜ StepsHolding cat (now (cells .entry)) (now (keys .entry)) (now (left .entry)) (now (right .entry)) stream budget (now (padded .entry)) r (now (keys .exit)) (now (left .exit)) (now (right .exit)) (now (padded .exit)) ⌝ }
+{
+    stream::step_holding(cat, cells, keys, left, right, stream, budget, padded)
+}
+
 // Whether one padded row covers another: the same length, the same value wherever both have one, and at least as many values.
 // Rows of any length may be asked about, and any codes.
 pub fn covers(first: &[u64], second: &[u64]) -> bool
-    ensures { λ r. ⌜ r ≡ covering (now (first .entry)) (now (second .entry)) ⌝ }
+    ensures { λ r. ⌜ Covers (now (first .entry)) (now (second .entry)) r ⌝ }
 {
     padding::covers(first, second)
 }

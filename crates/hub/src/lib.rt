@@ -6,7 +6,7 @@ ghost use mathlib.Core.List.{[]};
 ghost use Prim.Native.Nat.{_≤_, _<_};
 ghost use lib.ListN.{length, getD};
 ghost use Rattle.keys.specs.Keys.{bitsPerRow, mostTables, keyOf};
-ghost use Rattle.tables.specs.Catalogues.{FirstCells};
+ghost use Rattle.sets.specs.Promises.{LaidOut};
 ghost use Rattle.tables.specs.Checks.{Lawful};
 ghost use Rattle.disjunction.specs.Sets.{Maximal};
 ghost use Rattle.disjunction.specs.Rule.{rows, trial};
@@ -17,6 +17,7 @@ ghost use Rattle.store.specs.Good.{Key};
 ghost use Rattle.hub.specs.Verdicts.{seek, tried, triedOn, verdict, Sound};
 ghost use Rattle.hub.specs.Promises.{wordSet, wordSets, answerOf, checked, ChecksList};
 ghost use Rattle.hub.specs.Searching.{among, outOf, Linked, recordsOf, Enters, Spoils};
+use sets::Layout;
 use store::Looked;
 use tables::Catalogue;
 use tables::Row;
@@ -34,15 +35,15 @@ pub enum ListVerdict {
 
 // Whether the trial of the set's own row in table t gives the set back; where it has no row of t, nothing is tried.
 // A set that comes back for each of its rows is maximal, and no other does.
-fn gives_back(cat: Catalogue, cells: &[u64], firsts: [usize; 8], key: u64, t: usize) -> bool
-    requires { ⌜ Lawful cat (length (now cells)) × FirstCells cat firsts × Named cat key × (t < cat .n) ⌝ }
+fn gives_back(cat: Catalogue, cells: &[u64], layout: Layout, key: u64, t: usize) -> bool
+    requires { ⌜ Lawful cat (length (now cells)) × LaidOut cat (now cells) layout × Named cat key × (t < cat .n) ⌝ }
     ensures { λ r. ⌜ r ≡ givesBack (worldOf cat (now (cells .entry))) (setOf cat key) t ⌝ }
 {
     let row = keys::row_of(key, t) as usize;
     if row == 0 {
         return true;
     }
-    let g = sets::trial_set(cat, cells, firsts, key, Row { table: t, row });
+    let g = sets::trial_set(cat, cells, layout, key, Row { table: t, row });
     if g.key == key {
         return true;
     }
@@ -51,8 +52,8 @@ fn gives_back(cat: Catalogue, cells: &[u64], firsts: [usize; 8], key: u64, t: us
 
 // Whether a listed word is the key of a maximal set: it names rows, and the trial of each of them gives the set back.
 // No test for consistent or connected rows is made; the trials tell.
-fn is_maximal(cat: Catalogue, cells: &[u64], firsts: [usize; 8], word: u64) -> bool
-    requires { ⌜ Lawful cat (length (now cells)) × FirstCells cat firsts ⌝ }
+fn is_maximal(cat: Catalogue, cells: &[u64], layout: Layout, word: u64) -> bool
+    requires { ⌜ Lawful cat (length (now cells)) × LaidOut cat (now cells) layout ⌝ }
     ensures { λ r. ⌜ r ≡ standing (worldOf cat (now (cells .entry))) (wordSet cat word) ⌝ }
 {
     if !rows::key_named(cat, word) {
@@ -61,7 +62,7 @@ fn is_maximal(cat: Catalogue, cells: &[u64], firsts: [usize; 8], word: u64) -> b
     let n = cat.n;
     let mut t: usize = 0;
     while t < n {
-        if !gives_back(cat, cells, firsts, word, t) {
+        if !gives_back(cat, cells, layout, word, t) {
             return false;
         }
         t += 1;
@@ -152,12 +153,12 @@ fn enter(listed: &[u64], left: &mut [u16], right: &mut [u16], n: usize, i: usize
 fn first_spoilt(
     cat: Catalogue,
     cells: &[u64],
-    firsts: [usize; 8],
+    layout: Layout,
     listed: &[u64],
     left: &mut [u16],
     right: &mut [u16],
 ) -> usize
-    requires { ⌜ Lawful cat (length (now cells)) × FirstCells cat firsts × Linked (cat .n) (now listed) (now left) (now right) 0 ⌝ }
+    requires { ⌜ Lawful cat (length (now cells)) × LaidOut cat (now cells) layout × Linked (cat .n) (now listed) (now left) (now right) 0 ⌝ }
     ensures { λ r. ⌜ Spoils cat (now (cells .entry)) (now (listed .entry)) r (now (left .exit)) (now (right .exit)) ⌝ }
 {
     let n = cat.n;
@@ -165,7 +166,7 @@ fn first_spoilt(
     let mut i: usize = 0;
     while i < count {
         let word = listed[i];
-        if !is_maximal(cat, cells, firsts, word) {
+        if !is_maximal(cat, cells, layout, word) {
             return i;
         }
         if enter(listed, left, right, n, i) {
@@ -178,15 +179,15 @@ fn first_spoilt(
 
 // The key of the set that the trial of a row on a maximal set comes to.
 // A row of the set itself gives the set back, so that no trial is made twice.
-fn reached_by(cat: Catalogue, cells: &[u64], firsts: [usize; 8], key: u64, row: Row) -> u64
-    requires { ⌜ Lawful cat (length (now cells)) × FirstCells cat firsts × Named cat key × There cat (row .table) (row .row) × Maximal (worldOf cat (now cells)) (setOf cat key) ⌝ }
+fn reached_by(cat: Catalogue, cells: &[u64], layout: Layout, key: u64, row: Row) -> u64
+    requires { ⌜ Lawful cat (length (now cells)) × LaidOut cat (now cells) layout × Named cat key × There cat (row .table) (row .row) × Maximal (worldOf cat (now cells)) (setOf cat key) ⌝ }
     ensures { λ k. ⌜ k ≡ keyOf bitsPerRow (trial (worldOf cat (now (cells .entry))) (setOf cat key) (placeOf row) .rows) ⌝ }
 {
     let table = row.table;
     if keys::row_of(key, table) as usize == row.row {
         return key;
     }
-    let g = sets::trial_set(cat, cells, firsts, key, row);
+    let g = sets::trial_set(cat, cells, layout, key, row);
     g.key
 }
 
@@ -195,13 +196,13 @@ fn reached_by(cat: Catalogue, cells: &[u64], firsts: [usize; 8], key: u64, row: 
 fn first_out(
     cat: Catalogue,
     cells: &[u64],
-    firsts: [usize; 8],
+    layout: Layout,
     listed: &[u64],
     left: &[u16],
     right: &[u16],
     key: u64,
 ) -> u64
-    requires { ⌜ Lawful cat (length (now cells)) × FirstCells cat firsts × Named cat key × Maximal (worldOf cat (now cells)) (setOf cat key) × Sound (worldOf cat (now cells)) (wordSets cat (now listed)) × Linked (cat .n) (now listed) (now left) (now right) (recordsOf (length (now listed))) ⌝ }
+    requires { ⌜ Lawful cat (length (now cells)) × LaidOut cat (now cells) layout × Named cat key × Maximal (worldOf cat (now cells)) (setOf cat key) × Sound (worldOf cat (now cells)) (wordSets cat (now listed)) × Linked (cat .n) (now listed) (now left) (now right) (recordsOf (length (now listed))) ⌝ }
     ensures { λ r. ⌜ r ≡ outOf (seek (wordSets cat (now (listed .entry))) (tried (worldOf cat (now (cells .entry))) (setOf cat key) (rows (worldOf cat (now (cells .entry)))))) ⌝ }
 {
     let n = cat.n;
@@ -210,7 +211,7 @@ fn first_out(
     let mut j: usize = 0;
     while j < total {
         let row = tables::row_at(cat, j);
-        let to = reached_by(cat, cells, firsts, key, row);
+        let to = reached_by(cat, cells, layout, key, row);
         if !in_list(listed, left, right, n, count, to) {
             return to;
         }
@@ -224,19 +225,19 @@ fn first_out(
 fn first_missing(
     cat: Catalogue,
     cells: &[u64],
-    firsts: [usize; 8],
+    layout: Layout,
     listed: &[u64],
     left: &[u16],
     right: &[u16],
 ) -> u64
-    requires { ⌜ Lawful cat (length (now cells)) × FirstCells cat firsts × Sound (worldOf cat (now cells)) (wordSets cat (now listed)) × Linked (cat .n) (now listed) (now left) (now right) (recordsOf (length (now listed))) ⌝ }
+    requires { ⌜ Lawful cat (length (now cells)) × LaidOut cat (now cells) layout × Sound (worldOf cat (now cells)) (wordSets cat (now listed)) × Linked (cat .n) (now listed) (now left) (now right) (recordsOf (length (now listed))) ⌝ }
     ensures { λ r. ⌜ r ≡ outOf (seek (wordSets cat (now (listed .entry))) (triedOn (worldOf cat (now (cells .entry))) (wordSets cat (now (listed .entry))))) ⌝ }
 {
     let count = listed.len();
     let mut i: usize = 0;
     while i < count {
         let key = listed[i];
-        let out = first_out(cat, cells, firsts, listed, left, right, key);
+        let out = first_out(cat, cells, layout, listed, left, right, key);
         if out != 0 {
             return out;
         }
@@ -247,8 +248,8 @@ fn first_missing(
 
 // The verdict on the empty list: right where there is no row, else the first row's extension is missing.
 // There is no listed set on which a row could be tried.
-fn judge_none(cat: Catalogue, cells: &[u64], firsts: [usize; 8]) -> ListVerdict
-    requires { ⌜ Lawful cat (length (now cells)) × FirstCells cat firsts ⌝ }
+fn judge_none(cat: Catalogue, cells: &[u64], layout: Layout) -> ListVerdict
+    requires { ⌜ Lawful cat (length (now cells)) × LaidOut cat (now cells) layout ⌝ }
     ensures { λ r. ⌜ r ≡ answerOf (verdict (worldOf cat (now (cells .entry))) []) ⌝ }
 {
     let total = tables::total_rows(cat);
@@ -257,7 +258,7 @@ fn judge_none(cat: Catalogue, cells: &[u64], firsts: [usize; 8]) -> ListVerdict
     }
     let first = tables::row_at(cat, 0);
     let alone = keys::with_row(0, first.table, first.row as u64);
-    let g = sets::extend(cat, cells, firsts, alone);
+    let g = sets::extend(cat, cells, layout, alone, 0);
     ListVerdict::Missing(g.key)
 }
 
@@ -267,18 +268,18 @@ fn judge(cat: Catalogue, cells: &[u64], listed: &[u64]) -> ListVerdict
     requires { ⌜ Lawful cat (length (now cells)) ⌝ }
     ensures { λ r. ⌜ r ≡ answerOf (verdict (worldOf cat (now (cells .entry))) (wordSets cat (now (listed .entry)))) ⌝ }
 {
-    let firsts = tables::first_cells(cat);
     let count = listed.len();
+    let layout = sets::laid_out(cat, cells, count);
     if count == 0 {
-        return judge_none(cat, cells, firsts);
+        return judge_none(cat, cells, layout);
     }
     let mut left: [u16; 65535] = [0; 65535];
     let mut right: [u16; 65535] = [0; 65535];
-    let spoilt = first_spoilt(cat, cells, firsts, listed, &mut left, &mut right);
+    let spoilt = first_spoilt(cat, cells, layout, listed, &mut left, &mut right);
     if spoilt < count {
         return ListVerdict::Entry(spoilt);
     }
-    let out = first_missing(cat, cells, firsts, listed, &left, &right);
+    let out = first_missing(cat, cells, layout, listed, &left, &right);
     if out == 0 {
         return ListVerdict::Right;
     }

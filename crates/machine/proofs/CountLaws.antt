@@ -1,17 +1,26 @@
--- Any call on any stream, its store damaged or not: how large its counts can be. Induction over the ways of a call. Assumes nothing.
+-- Open, and any call on any stream, its store damaged or not: how large their counts can be. Induction over the ways of a call. Assumes nothing.
 use Prim.Native.Nat.{ℕ, zero, suc, _+_, _*_, _≤_, _<_}
 use native.Mathlib.Omega.{arith}
-use native.Mathlib.Nat.{suc-mul, mul-le-mul-right, mul-le-mul-left, le-trans}
+use native.Mathlib.Nat.{suc-mul, mul-le-mul-right, mul-le-mul-left, le-trans, eq-zero-or-pos}
 use mathlib.Core.Path.{_≡_, refl, ap}
+use mathlib.Core.Logic.{⊎-elim}
 use mathlib.Core.List.{List}
 use lib.ListN.{length}
 use Rattle.tables.specs.declared.Catalogue.{Catalogue}
 use Rattle.tables.specs.Catalogues.{total}
 use Rattle.tables.specs.Checks.{Lawful}
 use Rattle.tables.proofs.CatalogueLaws.{rows-few}
-use Rattle.machine.specs.Machine.{State, deepest, finished, working, refused, Called, answer, piled, Fit, callFault, work, call}
+use Rattle.disjunction.specs.Rule.{rows, alone}
+use Rattle.disjunction.specs.Asked.{Asked, everySet, everyWith, firstFor, Present}
+use Rattle.disjunction.proofs.Extending.{alone-jcc, extension-maximal}
+use Rattle.disjunction.proofs.AskedLaws.{first-there}
+use Rattle.rows.specs.World.{worldOf}
+use Rattle.rows.proofs.WorldLaws.{rows-total, world-symmetric}
+use Rattle.rows.proofs.NamedLaws.{there-row}
+use Rattle.store.specs.Store.{storeIn}
+use Rattle.machine.specs.Machine.{State, deepest, finished, working, refused, Called, answer, piled, Askable, Fit, callFault, work, call, openFault, firstGrown, openingFor}
 use Rattle.machine.proofs.WorkLaws.{handing, by-ways}
-use Rattle.machine.proofs.RefusalLaws.{call-clear, call-refused, call-works}
+use Rattle.machine.proofs.RefusalLaws.{call-clear, call-refused, call-works, open-clear, opening-refused, opening-empty, opening-begun}
 use Rattle.machine.proofs.TrialLaws.{trial-fit}
 
 -- What is known of the counts of call s, made with budget b in state q.
@@ -93,3 +102,40 @@ module _ (cat : Catalogue) (cells row : List ℕ) where
       by (suc k) e =
           rw (call-refused cat cells b q row (suc k) e (λ z. absurd (omega arith)))
           (record { trials = omega arith; tests = omega arith; looks = omega arith })
+
+-- ---- open
+
+module _ (cat : Catalogue) (cells : List ℕ) (a : Asked) where
+  -- The row asked for is a row of the rule's tables.
+  pub able-there : Askable cat a → Present (worldOf cat cells) a
+  able-there = by a
+    where
+      by : (x : Asked) → Askable cat x → Present (worldOf cat cells) x
+      by everySet p = tt
+      by (everyWith s) p = there-row cat cells (s .table) (s .row) p
+
+  -- One row alone takes at most n x N tests,
+  first-few : Lawful cat (length cells) → Askable cat a → 0 < total cat → firstGrown cat cells a .tests ≤ 8 * 2040
+  first-few L p h =
+      let W = worldOf cat cells in
+      let s = firstFor W a in
+      let r = first-there W a (able-there p) (rw (rows-total cat cells) h) in
+      let b : firstGrown cat cells a .tests ≤ W .n * length (rows W) = extension-maximal W (world-symmetric cat cells) (alone W s) (alone-jcc W s r) .few in
+      let q : length (rows W) ≤ 2040 = omega (arith, rows-few cat (length cells) L (cat .n) (omega arith), rows-total cat cells) in
+      omega (arith, b, product (cat .n) (length (rows W)) 8 2040 (L .tables) q)
+
+  -- and open tries no more.
+  pub open-few : (keys left right : List ℕ) → openingFor cat cells a keys left right .tests ≤ 8 * 2040
+  open-few keys left right = by (openFault cat (length cells) a (storeIn keys left right 0)) refl
+    where
+      by : (k : ℕ) → openFault cat (length cells) a (storeIn keys left right 0) ≡ k → openingFor cat cells a keys left right .tests ≤ 8 * 2040
+      by (suc k) e = rw (opening-refused cat cells a keys left right (suc k) e (λ z. omega arith)) (omega arith)
+      by zero e = ⊎-elim none some (eq-zero-or-pos (total cat))
+        where
+          none : total cat ≡ 0 → openingFor cat cells a keys left right .tests ≤ 8 * 2040
+          none z = rw (opening-empty cat cells a keys left right e z) (omega arith)
+
+          some : 0 < total cat → openingFor cat cells a keys left right .tests ≤ 8 * 2040
+          some h =
+              let (L, p, r) = open-clear cat (length cells) a (storeIn keys left right 0) e in
+              rw (opening-begun cat cells a keys left right e h) (first-few L p h)

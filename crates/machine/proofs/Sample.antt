@@ -1,5 +1,4 @@
--- Document 01's input of 25 bytes, run by the definitions: the catalogue and the cells that it loads to, open, all calls until the end, and the same in
--- a store that is too short. Assumes nothing.
+-- Document 01's sample, run by the definitions: open, all calls until the end, and the same in a store that is too short. Assumes nothing.
 use Prim.Native.Nat.{ℕ}
 use mathlib.Core.Path.{_≡_, refl}
 use mathlib.Core.List.{List, [], _∷_}
@@ -9,7 +8,7 @@ use Rattle.laws.specs.Tests.{any, all}
 use Rattle.laws.specs.Lists.{tab}
 use Rattle.words.specs.Words.{bitOf}
 use Rattle.keys.specs.Keys.{rowOf, keyOf, rowsIn}
-use Rattle.tables.specs.declared.Catalogue.{Catalogue}
+use Rattle.tables.specs.Sample.{three, threeCells}
 use Rattle.tables.specs.Catalogues.{firstCell, rowStart, rowsBefore}
 use Rattle.tables.specs.Checks.{sizeFault, badScheme, countFault, tableFault, tablesFault, catalogueFault}
 use Rattle.disjunction.specs.Rule.{rowsTo, rowsBelow, member, absent, near, agrees, rowTest, walk, grow, extension, stays, dropped, alone, joins, membersBelow, piece, start, trial}
@@ -18,21 +17,8 @@ use Rattle.rows.specs.World.{touchesIn, fitsIn}
 use Rattle.rows.specs.Named.{missing, beyond, named, rowsThere}
 use Rattle.store.specs.Store as Store
 use Rattle.store.specs.Store.{linkOf, searchOf, filed, added, answerOf, storeAfter}
-use Rattle.machine.specs.Machine.{placed, offered, trialOn, Says, aSet, finished, refused, Called, handOut, dueOr, work, unfit, callFault, call, Opened, openFault, begun, opening, openingRow, openingFor}
+use Rattle.machine.specs.Machine.{placed, offered, trialOn, Says, aSet, finished, refused, Called, handOut, dueOr, work, unfit, callFault, call, Opened, openFault, begun, opening, openingHolding, openingFor}
 use Rattle.machine.specs.Runs.{Given, runOf, handed, sum}
-
--- "Input, 25 bytes": three tables over the attributes {0,1}, {1,2} and {0,2}, each with two rows.
-unfoldable pub three : Catalogue
-three =
-    record {
-      m = 3;
-      n = 3;
-      schemes = 3 ∷ 6 ∷ 5 ∷ 0 ∷ 0 ∷ 0 ∷ 0 ∷ 0 ∷ [];
-      rows = 2 ∷ 2 ∷ 2 ∷ 0 ∷ 0 ∷ 0 ∷ 0 ∷ 0 ∷ [];
-    }
-
-unfoldable pub threeCells : List ℕ
-threeCells = 2 ∷ 11 ∷ 3 ∷ 21 ∷ 11 ∷ 8 ∷ 4294967307 ∷ 10 ∷ 2 ∷ 8 ∷ 3 ∷ 0 ∷ []
 
 -- Opened in a store of c records that starts as zeros.
 unfoldable pub first : ℕ → Opened
@@ -71,7 +57,7 @@ calls c = runOf (call three threeCells) (asked ∷ asked ∷ asked ∷ asked ∷
 
 -- The same, asked for the sets that hold row r of table t (#109), in a store of one record.
 unfoldable pub firstWith : ℕ → ℕ → Opened
-firstWith t r = openingRow three threeCells (record { table = t; row = r }) (0 ∷ []) (0 ∷ []) (0 ∷ [])
+firstWith t r = openingHolding three threeCells (record { table = t; row = r }) (0 ∷ []) (0 ∷ []) (0 ∷ [])
 
 unfoldable pub callsWith : ℕ → ℕ → List Called
 callsWith t r = runOf (call three threeCells) (asked ∷ asked ∷ []) (firstWith t r .after)

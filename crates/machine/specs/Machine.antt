@@ -284,5 +284,5 @@ module _ (cat : Catalogue) (cells : List ℕ) where
   opening keys left right = openingFor cat cells everySet keys left right
 
   -- "Add a stream that starts by extending that row alone" (#109). Its calls are those of any stream: `call`.
-  abbrev pub openingRow : Place → List ℕ → List ℕ → List ℕ → Opened
-  openingRow s keys left right = openingFor cat cells (everyWith s) keys left right
+  abbrev pub openingHolding : Place → List ℕ → List ℕ → List ℕ → Opened
+  openingHolding s keys left right = openingFor cat cells (everyWith s) keys left right

@@ -38,19 +38,17 @@ pub fn read(s: &[u8], at: usize) -> Reading
     Reading::NumberFault(2)
 }
 
-// How many bytes a number takes.
+// How many bytes a number takes: one for each seven bits up to its highest set bit. Most numbers are below 128, and 0 has no set bit: one byte.
 // The image writer adds these up before it writes a byte.
 pub fn size(x: u64) -> usize
     requires { ⌜ x < 2 ^ 63 ⌝ }
     ensures { λ r. ⌜ r ≡ length (encode x) ⌝ }
 {
-    let mut y = x;
-    let mut n: usize = 1;
-    while 128 <= y {
-        y = y / 128;
-        n = n + 1;
+    if x < 128 {
+        return 1;
     }
-    n
+    let highest = 63 - u64::leading_zeros(x);
+    (highest / 7 + 1) as usize
 }
 
 // Writes a number's bytes into the front of the lent part, and gives how many they are.

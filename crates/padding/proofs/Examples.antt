@@ -8,62 +8,45 @@ use Rattle.laws.specs.Lists.{tab}
 use Rattle.laws.specs.Tests.{any, all}
 use Rattle.words.specs.Words.{bitOf}
 use Rattle.keys.specs.Keys.{rowOf, rowsIn}
-use Rattle.tables.specs.declared.Catalogue.{Catalogue}
+use Rattle.tables.specs.Sample.{three, threeCells}
 use Rattle.tables.specs.Catalogues.{firstCell, rowStart}
 use Rattle.disjunction.specs.Rule.{member}
 use Rattle.disjunction.specs.Cells.{gives, codeBelow, padded}
 use Rattle.padding.specs.Padding.{paddedRow}
-use Rattle.padding.specs.Covering.{alike, agreeing, valuesIn, covering}
+use Rattle.padding.specs.Covering.{keeps, covering, Pair}
 
 -- ---- padded rows
 
--- The tables of document 01's 25 bytes: (1, 10), (2, 20) over attributes 0 and 1; (10, 7), (4294967306, 9) over 1 and 2; (1, 7), (2, null) over 0
--- and 2.
-unfoldable pub three : Catalogue
-three =
-    record {
-      m = 3;
-      n = 3;
-      schemes = 3 ∷ 6 ∷ 5 ∷ 0 ∷ 0 ∷ 0 ∷ 0 ∷ 0 ∷ [];
-      rows = 2 ∷ 2 ∷ 2 ∷ 0 ∷ 0 ∷ 0 ∷ 0 ∷ 0 ∷ [];
-    }
-
-unfoldable pub codes : List ℕ
-codes = 2 ∷ 11 ∷ 3 ∷ 21 ∷ 11 ∷ 8 ∷ 4294967307 ∷ 10 ∷ 2 ∷ 8 ∷ 3 ∷ 0 ∷ []
-
 -- "set 1 1 1 | 1 10 7", "set 2 0 2 | 2 20 -", "set 0 2 0 | - 4294967306 9", by their keys.
-pub sample-rows : (paddedRow three codes 65793 ≡ 2 ∷ 11 ∷ 8 ∷ []) × (paddedRow three codes 131074 ≡ 3 ∷ 21 ∷ 0 ∷ [])
-    × (paddedRow three codes 512 ≡ 0 ∷ 4294967307 ∷ 10 ∷ [])
-unfolding paddedRow padded codeBelow gives member tab any bitOf rowsIn rowOf rowStart firstCell ones onesIn three codes
+pub sample-rows : (paddedRow three threeCells 65793 ≡ 2 ∷ 11 ∷ 8 ∷ []) × (paddedRow three threeCells 131074 ≡ 3 ∷ 21 ∷ 0 ∷ [])
+    × (paddedRow three threeCells 512 ≡ 0 ∷ 4294967307 ∷ 10 ∷ [])
+unfolding paddedRow padded codeBelow gives member tab any bitOf rowsIn rowOf rowStart firstCell ones onesIn three threeCells
 sample-rows = (refl, refl, refl)
 
 -- Rows 1 and 2 of the first two tables are not consistent: attribute 1 is that of table 0.
-pub lowest-table : paddedRow three codes 513 ≡ 2 ∷ 11 ∷ 10 ∷ []
-unfolding paddedRow padded codeBelow gives member tab any bitOf rowsIn rowOf rowStart firstCell ones onesIn three codes
+pub lowest-table : paddedRow three threeCells 513 ≡ 2 ∷ 11 ∷ 10 ∷ []
+unfolding paddedRow padded codeBelow gives member tab any bitOf rowsIn rowOf rowStart firstCell ones onesIn three threeCells
 lowest-table = refl
 
 -- ---- covering
 
--- (1, null, 3) covers (1, 2, null), and is covered by it: they agree on the first attribute, and each has two values.
-pub equal-values : covering (2 ∷ 0 ∷ 4 ∷ []) (2 ∷ 3 ∷ 0 ∷ []) ≡ true
-unfolding covering agreeing alike valuesIn all
-equal-values = refl
+-- Request #104's pair: (1, null, 3) has no 2, and (1, 2, null) no 3.
+pub pair : Pair
+unfolding covering keeps all
+pair = record { there = refl; back = refl }
 
-pub equal-values-back : covering (2 ∷ 3 ∷ 0 ∷ []) (2 ∷ 0 ∷ 4 ∷ []) ≡ true
-unfolding covering agreeing alike valuesIn all
-equal-values-back = refl
+-- (1, 2) covers (1, null), which does not cover it; (null, null) is covered by both.
+pub fewer-values : (covering (2 ∷ 3 ∷ []) (2 ∷ 0 ∷ []) ≡ true) × (covering (2 ∷ 0 ∷ []) (2 ∷ 3 ∷ []) ≡ false)
+    × (covering (2 ∷ 0 ∷ []) (0 ∷ 0 ∷ []) ≡ true)
+unfolding covering keeps all
+fewer-values = (refl, refl, refl)
 
--- (1, 2) covers (1, null), which has one value less and does not cover it.
-pub fewer-values : covering (2 ∷ 0 ∷ []) (2 ∷ 3 ∷ []) ≡ false
-unfolding covering agreeing alike valuesIn all
-fewer-values = refl
-
--- (1, 2) and (1, 3) do not agree.
+-- (1, 2) and (1, 3) do not cover each other.
 pub other-value : covering (2 ∷ 3 ∷ []) (2 ∷ 4 ∷ []) ≡ false
-unfolding covering agreeing alike valuesIn all
+unfolding covering keeps all
 other-value = refl
 
 -- (1, 2) does not cover (1), although it has every value of it, for rows of unequal length never cover.
 pub longer-row : covering (2 ∷ 3 ∷ []) (2 ∷ []) ≡ false
-unfolding covering agreeing alike valuesIn all
+unfolding covering keeps all
 longer-row = refl

@@ -12,7 +12,7 @@ ghost use Rattle.disjunction.specs.Cells.{codeBelow};
 ghost use Rattle.rows.specs.World.{cellsIn, setOf};
 ghost use Rattle.rows.specs.Named.{Named};
 ghost use Rattle.padding.specs.Padding.{givesIn, paddedRow};
-ghost use Rattle.padding.specs.Covering.{valued, alike, agreeing, valuesIn, covering};
+ghost use Rattle.padding.specs.Covering.{keeps, Covers};
 use tables::Catalogue;
 
 // Whether table t is a member of the set and has attribute a.
@@ -70,70 +70,31 @@ pub fn pad(cat: Catalogue, cells: &[u64], key: u64, padded: &mut [u64])
     }
 }
 
-// Whether a code is a value, and no null.
-// What a value is, is asked here alone.
-fn has_value(code: u64) -> bool
-    ensures { λ r. ⌜ r ≡ valued code ⌝ }
+// Whether a code keeps another: the other is null, or they are the same.
+// Two rows are compared by it, attribute by attribute.
+fn code_kept(x: u64, y: u64) -> bool
+    ensures { λ r. ⌜ r ≡ keeps x y ⌝ }
 {
-    0 < code
-}
-
-// Whether two codes are the same where both have a value.
-// Two rows are compared by it, code by code.
-fn codes_alike(x: u64, y: u64) -> bool
-    ensures { λ r. ⌜ r ≡ alike x y ⌝ }
-{
-    if !has_value(x) {
-        return true;
-    }
-    if !has_value(y) {
+    if y == 0 {
         return true;
     }
     x == y
 }
 
-// Whether two rows of one length agree wherever both have a value.
-// The first pair of codes that differ decides.
-fn agree(first: &[u64], second: &[u64]) -> bool
-    requires { ⌜ length (now first) ≡ length (now second) ⌝ }
-    ensures { λ r. ⌜ r ≡ agreeing (now (first .entry)) (now (second .entry)) ⌝ }
+// Whether one padded row covers another, for rows of any length: the first attribute whose value is not kept decides.
+// A public yes or no: nothing is asked of the rows before.
+pub fn covers(first: &[u64], second: &[u64]) -> bool
+    ensures { λ r. ⌜ Covers (now (first .entry)) (now (second .entry)) r ⌝ }
 {
+    if first.len() != second.len() {
+        return false;
+    }
     let mut a: usize = 0;
-    while a < first.len() {
-        if !codes_alike(first[a], second[a]) {
+    while a < second.len() {
+        if !code_kept(first[a], second[a]) {
             return false;
         }
         a += 1;
     }
     true
-}
-
-// How many values a row has.
-// Of two rows that agree, the one that covers has at least as many.
-fn values(row: &[u64]) -> usize
-    ensures { λ r. ⌜ r ≡ valuesIn (now (row .entry)) ⌝ }
-{
-    let mut sum: usize = 0;
-    let mut a: usize = 0;
-    while a < row.len() {
-        if has_value(row[a]) {
-            sum += 1;
-        }
-        a += 1;
-    }
-    sum
-}
-
-// Whether one padded row covers another, for rows of any length.
-// A public yes or no: nothing is asked of the rows before.
-pub fn covers(first: &[u64], second: &[u64]) -> bool
-    ensures { λ r. ⌜ r ≡ covering (now (first .entry)) (now (second .entry)) ⌝ }
-{
-    if first.len() != second.len() {
-        return false;
-    }
-    if !agree(first, second) {
-        return false;
-    }
-    values(second) <= values(first)
 }

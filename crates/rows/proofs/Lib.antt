@@ -1,2 +1,3 @@
 pub mod WorldLaws
 pub mod NamedLaws
+pub mod Sample

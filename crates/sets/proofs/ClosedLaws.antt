@@ -30,7 +30,7 @@ pub record Shut (cat : Catalogue) (cells : List ℕ) (key closed : ℕ) : Type 0
 
 -- ---- the mask
 
-one-is : (t u : ℕ) → bitOf (2 ^ t) u ≡ eqb u t
+pub one-is : (t u : ℕ) → bitOf (2 ^ t) u ≡ eqb u t
 one-is t u =
     iff-eq (bitOf (2 ^ t) u) (eqb u t)
     (λ h. ⊎-elim (λ e. e) (λ e. absurd (clash h (one-other t u (λ q. clash (eq-eqb u t q) e)))) (which (eqb u t)))

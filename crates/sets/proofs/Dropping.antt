@@ -29,10 +29,10 @@ use Rattle.rows.specs.World.{worldOf, setOf, fitsIn}
 use Rattle.rows.specs.Named.{Named, There}
 use Rattle.rows.proofs.WorldLaws.{world-symmetric, row-room}
 use Rattle.sets.specs.Merged.{mergedLength, Merged, matches, Added, rowIn, only}
-use Rattle.sets.specs.Promises.{FirstIn, KeyFor, parts, ForDrop}
+use Rattle.sets.specs.Promises.{KeyFor, parts, ForDrop}
 use Rattle.sets.proofs.MatchLaws.{matches-none}
 use Rattle.sets.proofs.MergedLaws.{matches-fits, merged-none, merged-add, only-here, only-other, only-more}
-use Rattle.sets.proofs.RowTestLaws.{first-one, start-of}
+use Rattle.sets.proofs.RowTestLaws.{start-of}
 
 -- ---- what has to go
 
@@ -105,25 +105,18 @@ member-room cat lent L key u base N l b p =
 -- The row q of table u in a key's set, with its cells as the code finds them: they tell whether the row has to go.
 module _ (cat : Catalogue) (cells : List ℕ) (key : ℕ) (s : Place) (u scheme base mask : ℕ) (codes : List ℕ) (D : ForDrop cat cells key s u scheme base mask codes)
     (q w : ℕ) (d : u ≢ s .table) (e : q ≡ rowOf bitsPerRow key u) (p : q ≡ 0 → ⊥) (f : w ≡ ones scheme) where
-  parts-answer : parts (worldOf cat cells) (setOf cat key) s u ≡ not (matches cells scheme (base + (q - 1) * w) (bitAnd scheme mask) codes)
+  pub parts-answer : parts (worldOf cat cells) (setOf cat key) s u ≡ not (matches cells scheme (base + (q - 1) * w) (bitAnd scheme mask) codes)
   parts-answer =
       let o : at (setOf cat key) u ≡ q = in-at bitsPerRow (cat .n) key u (D .table) ∙ sym e in
       let m : fitsIn cat cells u (at (setOf cat key) u) (s .table) (s .row) ≡ matches cells scheme (base + (q - 1) * w) (bitAnd scheme mask) codes =
       rw (o, f, D .own, start-of cat u q base (D .begins)) (fits-one cat cells (length cells) (D .lawful) (s .table) (s .row) u q codes mask (D .row) (D .merged)) in
       parts-fits (worldOf cat cells) (setOf cat key) s u d (omega (arith, p, o)) ∙ ap not m
 
-  -- It shares no attribute with s, or it is the first of one row that has the codes, or it is not.
+  -- It stays where it shares no attribute with s.
   pub parts-apart : bitAnd scheme mask ≡ 0 → parts (worldOf cat cells) (setOf cat key) s u ≡ false
   parts-apart z =
       parts-answer
       ∙ ap not (ap (λ (x : ℕ). matches cells scheme (base + (q - 1) * w) x codes) z ∙ matches-none cells scheme (base + (q - 1) * w) codes)
-
-  pub parts-first : (i : ℕ) → FirstIn 1 (λ j. matches cells scheme (rowIn (base + (q - 1) * w) scheme j) (bitAnd scheme mask) codes) i
-      → parts (worldOf cat cells) (setOf cat key) s u ≡ not (eqb i 0)
-  parts-first i h =
-      let z : rowIn (base + (q - 1) * w) scheme 0 ≡ base + (q - 1) * w = omega arith in
-      parts-answer
-      ∙ ap not (ap (λ (x : ℕ). matches cells scheme x (bitAnd scheme mask) codes) (sym z) ∙ first-one _ i h)
 
 -- ---- table by table
 

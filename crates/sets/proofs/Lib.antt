@@ -4,6 +4,7 @@ pub mod MergedLaws
 pub mod RowTestLaws
 pub mod PlaceLaws
 pub mod ClosedLaws
+pub mod RisingLaws
 pub mod Rounds
 pub mod Dropping
 pub mod Joining

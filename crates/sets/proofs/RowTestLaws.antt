@@ -90,14 +90,6 @@ first-none k ok h = first-all k ok (λ i l. h i)
 pub first-same : (k : ℕ) (ok ok′ : ℕ → Bool) (r : ℕ) → ((i : ℕ) → ok i ≡ ok′ i) → FirstIn k ok′ r → FirstIn k ok r
 first-same k ok ok′ r e f = record { within = f .within; before = λ i l. e i ∙ f .before i l; found = λ l. e r ∙ f .found l }
 
--- Of one number: it passes where it is the first that does.
-pub first-one : (ok : ℕ → Bool) (r : ℕ) → FirstIn 1 ok r → ok 0 ≡ eqb r 0
-first-one ok r f = go (eq-zero-or-pos r)
-  where
-    go : (r ≡ 0) ⊎ (0 < r) → ok 0 ≡ eqb r 0
-    go (inl e) = rw (eq-eqb r 0 e) (rw e at (f .found (omega arith)))
-    go (inr p) = rw (ne-eqb r 0 (omega arith)) (f .before 0 p)
-
 -- Where row i + 1 of a table begins.
 pub start-is : (cat : Catalogue) (t i base : ℕ) → base ≡ firstCell cat t → rowIn base (schemeOf cat t) i ≡ rowStart cat t (suc i)
 unfolding rowStart
@@ -109,6 +101,10 @@ start-next base w i = rw (add-one i) (omega (arith, suc-mul i w))
 
 pub start-inside : (base w i k lent : ℕ) → i < k → base + k * w ≤ lent → (base + i * w) + w ≤ lent
 start-inside base w i k lent l h = omega (arith, suc-mul i w, mul-le-mul-right w l)
+
+-- A column's cells are there where that of the last of k rows is.
+pub cell-inside : (first w i k lent : ℕ) → i < k → first + k * w < lent + w → first + i * w < lent
+cell-inside first w i k lent l h = omega (arith, h, start-inside first w i k (first + k * w) l (omega arith))
 
 -- Where row r of a table begins, which is there.
 pub start-of : (cat : Catalogue) (t r base : ℕ) → base ≡ firstCell cat t → rowIn base (schemeOf cat t) (r - 1) ≡ rowStart cat t r

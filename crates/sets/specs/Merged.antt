@@ -84,3 +84,14 @@ pub record NextEqual (cells : List ℕ) (first w i k v r : ℕ) : Type 0 where
   pub within : r ≤ k
   pub before : (j : ℕ) → j < r → i ≤ j → getD cells (first + j * w) 0 ≢ v
   pub found : r < k → getD cells (first + r * w) 0 ≡ v
+
+-- A column does not fall: of k rows, no later one has a smaller code in it. Row 0's cell lies at `first`, and a row is w cells wide.
+pub record Rising (cells : List ℕ) (first w k : ℕ) : Type 0 where
+  pub each : (i j : ℕ) → i ≤ j → j < k → getD cells (first + i * w) 0 ≤ getD cells (first + j * w) 0
+
+-- r is the first of k rows, from row i on, whose code in one cell is not below v, and every code before it is; k where there is none.
+pub record AtLeast (cells : List ℕ) (first w i k v r : ℕ) : Type 0 where
+  pub from : i ≤ r
+  pub within : r ≤ k
+  pub before : (j : ℕ) → j < r → i ≤ j → getD cells (first + j * w) 0 < v
+  pub found : r < k → v ≤ getD cells (first + r * w) 0

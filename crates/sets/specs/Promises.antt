@@ -4,6 +4,7 @@ use Prim.Native.Nat.{ℕ, suc, _*_, _^_, _≤_, _<_}
 use mathlib.Core.Path.{_≡_}
 use mathlib.Core.Bool.{Bool, true, false, not, _&&_, _||_}
 use mathlib.Core.List.{List, []}
+use lib.Count.{ones}
 use lib.ListN.{length}
 use lib.Bits.{bitAnd}
 use lib.Dec.{eqb}
@@ -11,13 +12,23 @@ use Rattle.words.specs.Words.{bitOf}
 use Rattle.keys.specs.Keys.{bitsPerRow, keyOf}
 use Rattle.tables.specs.declared.Catalogue.{Catalogue}
 use Rattle.tables.specs.Sizes.{mostCells}
-use Rattle.tables.specs.Catalogues.{schemeOf, firstCell}
+use Rattle.tables.specs.Catalogues.{schemeOf, countOf, firstCell, FirstCells}
 use Rattle.tables.specs.Checks.{Lawful}
 use Rattle.disjunction.specs.Sets.{Tables, at}
 use Rattle.disjunction.specs.Rule.{Place, Grown, rowIn, member, joins, rowTest}
 use Rattle.rows.specs.World.{worldOf, setOf}
 use Rattle.rows.specs.Named.{Named}
-use Rattle.sets.specs.Merged.{Attributes, Merged, only}
+use Rattle.sets.specs.declared.Layout.{Layout}
+use Rattle.sets.specs.Merged.{Attributes, Merged, only, Rising}
+
+-- Every table of the mask has a first column that does not fall. Of the others nothing is said.
+abbrev pub RisingIn : Catalogue → List ℕ → ℕ → Type 0
+RisingIn cat cells mask = (t : ℕ) → t < cat .n → bitOf mask t ≡ true → Rising cells (firstCell cat t) (ones (schemeOf cat t)) (countOf cat t)
+
+-- What a trial goes by: where the cells of each table begin, and tables whose first column does not fall.
+pub record LaidOut (cat : Catalogue) (cells : List ℕ) (l : Layout) : Type 0 where
+  pub begins : FirstCells cat (l .firsts)
+  pub rising : RisingIn cat cells (l .rising)
 
 -- i is the first of the numbers below k that passes; k where none does.
 pub record FirstIn (k : ℕ) (ok : ℕ → Bool) (i : ℕ) : Type 0 where

@@ -3,7 +3,7 @@ ghost use mathlib.Core.Path.{_≡_};
 ghost use mathlib.Core.Logic.{_↔_};
 ghost use mathlib.Core.Bool.{true};
 ghost use mathlib.Core.List.{List};
-ghost use Prim.Native.Nat.{ℕ, _+_, _-_, _*_, _≤_, _<_};
+ghost use Prim.Native.Nat.{ℕ, _+_, _-_, _*_, _^_, _≤_, _<_};
 ghost use lib.ListN.{length, getD};
 ghost use lib.Count.{ones};
 ghost use Rattle.words.specs.Words.{bitOf};
@@ -15,8 +15,8 @@ ghost use Rattle.disjunction.specs.Sets.{at};
 ghost use Rattle.disjunction.specs.Rule.{extension, dropped, piece, trial};
 ghost use Rattle.rows.specs.World.{worldOf, setOf, placeOf};
 ghost use Rattle.rows.specs.Named.{Named, There};
-ghost use Rattle.sets.specs.Merged.{mergedLength, Under, Values, Attributes, Merged, matches, joint, Joined, Added, rowIn, Places, NextEqual};
-ghost use Rattle.sets.specs.Promises.{FirstIn, tested, TableOf, closes, KeyFor, Comes, parts, ForDrop, joinsIn, ForJoin};
+ghost use Rattle.sets.specs.Merged.{mergedLength, Under, Values, Attributes, Merged, matches, joint, Joined, Added, rowIn, Places, NextEqual, Rising, AtLeast};
+ghost use Rattle.sets.specs.Promises.{RisingIn, LaidOut, FirstIn, tested, TableOf, closes, KeyFor, Comes, parts, ForDrop, joinsIn, ForJoin};
 use tables::Catalogue;
 use tables::Row;
 
@@ -24,6 +24,187 @@ use tables::Row;
 pub struct Grown {
     pub key: u64,
     pub tests: usize,
+}
+
+// What a trial goes by and reads off the catalogue and the cells: where the cells of each table begin, and which tables have a first column that does not fall.
+// Worked out once, it serves every trial of a call.
+pub struct Layout {
+    pub firsts: [usize; 8],
+    pub rising: u64,
+}
+
+// Whether a column does not fall from row to row. Row 0's cell of it lies at `first`.
+// A stream takes cells in any order, so this is looked at and never assumed.
+fn rises(cells: &[u64], first: usize, w: usize, count: usize) -> bool
+    requires { ⌜ (w ≤ mergedLength) × (first + count * w < length (now cells) + w) ⌝ }
+    ensures { λ r. ⌜ (r ≡ true → Rising (now (cells .entry)) first w count) ⌝ }
+{
+    let mut last: u64 = 0;
+    let mut place = first;
+    let mut r: usize = 0;
+    while r < count {
+        let code = cells[place];
+        if code < last {
+            return false;
+        }
+        last = code;
+        place = place + w;
+        r += 1;
+    }
+    true
+}
+
+// The tables whose first column does not fall, as a mask.
+// Tables from an image are all among them, since their rows rise.
+fn rising_tables(cat: Catalogue, cells: &[u64], firsts: [usize; 8]) -> u64
+    requires { ⌜ Lawful cat (length (now cells)) × FirstCells cat firsts ⌝ }
+    ensures { λ r. ⌜ RisingIn cat (now (cells .entry)) r ⌝ }
+{
+    let n = cat.n;
+    let mut rising: u64 = 0;
+    let mut t: usize = 0;
+    while t < n {
+        let w = tables::width(cat.schemes[t]);
+        if rises(cells, firsts[t], w, cat.rows[t] as usize) {
+            rising = rising | (1 << t);
+        }
+        t += 1;
+    }
+    rising
+}
+
+// The layout of the tables, for at most this many trials.
+// The columns are looked at only where there are trials enough to pay for it; else no table is known to rise, and each is walked row by row.
+pub fn laid_out(cat: Catalogue, cells: &[u64], trials: usize) -> Layout
+    requires { ⌜ Lawful cat (length (now cells)) ⌝ }
+    ensures { λ r. ⌜ LaidOut cat (now (cells .entry)) r ⌝ }
+{
+    let firsts = tables::first_cells(cat);
+    if trials < 16 {
+        return Layout { firsts, rising: 0 };
+    }
+    let rising = rising_tables(cat, cells, firsts);
+    Layout { firsts, rising }
+}
+
+// Where a halving goes on: past `half` rows where the last of them has a code below the wanted one, else where it was.
+// A choice between two numbers, which costs no jump.
+fn past(code: u64, wanted: u64, from: usize, half: usize) -> usize
+    requires { ⌜ from + half < 2 ^ 64 ⌝ }
+    ensures { λ r. ⌜ (code < wanted → r ≡ from + half) × (wanted ≤ code → r ≡ from) ⌝ }
+{
+    if code < wanted {
+        return from + half;
+    }
+    from
+}
+
+// The first of a table's rows, from row i on, whose code in a column that does not fall is not below the wanted one; their number where none is.
+// By halving, with as many reads as the number of rows has bits, whatever the codes are.
+fn first_row_at_least(
+    cells: &[u64],
+    first: usize,
+    w: usize,
+    i: usize,
+    count: usize,
+    wanted: u64,
+) -> usize
+    requires { ⌜ (i ≤ count) × (w ≤ mergedLength) × (first + count * w < length (now cells) + w) × Rising (now cells) first w count ⌝ }
+    ensures { λ r. ⌜ AtLeast (now (cells .entry)) first w i count wanted r ⌝ }
+{
+    let mut from = i;
+    let mut left = count - i;
+    while left != 0 {
+        let rest = left / 2;
+        let half = left - rest;
+        let last = from + half - 1;
+        from = past(cells[first + last * w], wanted, from, half);
+        left = rest;
+    }
+    from
+}
+
+// Whether row `near` is the first, from row i on, whose code in a column that does not fall is not below the wanted one.
+// Two reads tell; nothing is asked of `near`, which is a guess.
+fn is_first_row(
+    cells: &[u64],
+    first: usize,
+    w: usize,
+    i: usize,
+    count: usize,
+    wanted: u64,
+    near: usize,
+) -> bool
+    requires { ⌜ (i ≤ count) × (w ≤ mergedLength) × (first + count * w < length (now cells) + w) × Rising (now cells) first w count ⌝ }
+    ensures { λ r. ⌜ (r ≡ true → AtLeast (now (cells .entry)) first w i count wanted near) ⌝ }
+{
+    if near < i {
+        return false;
+    }
+    if count <= near {
+        return false;
+    }
+    if cells[first + near * w] < wanted {
+        return false;
+    }
+    if near == i {
+        return true;
+    }
+    cells[first + (near - 1) * w] < wanted
+}
+
+// The same row as `first_row_at_least` gives, looked for at `near` first.
+// Tables that share a column often have the same code in the same row.
+fn first_row_near(
+    cells: &[u64],
+    first: usize,
+    w: usize,
+    i: usize,
+    count: usize,
+    wanted: u64,
+    near: usize,
+) -> usize
+    requires { ⌜ (i ≤ count) × (w ≤ mergedLength) × (first + count * w < length (now cells) + w) × Rising (now cells) first w count ⌝ }
+    ensures { λ r. ⌜ AtLeast (now (cells .entry)) first w i count wanted r ⌝ }
+{
+    if is_first_row(cells, first, w, i, count, wanted, near) {
+        return near;
+    }
+    first_row_at_least(cells, first, w, i, count, wanted)
+}
+
+// The next of a table's rows, from row i on, that has the wanted code in a column that does not fall; their number where none has.
+// Rows with one code lie together there, so that row i itself often is the answer, or says that there is none.
+fn next_rising(
+    cells: &[u64],
+    first: usize,
+    w: usize,
+    i: usize,
+    count: usize,
+    wanted: u64,
+    near: usize,
+) -> usize
+    requires { ⌜ (i ≤ count) × (w ≤ mergedLength) × (first + count * w < length (now cells) + w) × Rising (now cells) first w count ⌝ }
+    ensures { λ r. ⌜ NextEqual (now (cells .entry)) first w i count wanted r ⌝ }
+{
+    if i == count {
+        return count;
+    }
+    let here = cells[first + i * w];
+    if here == wanted {
+        return i;
+    }
+    if wanted < here {
+        return count;
+    }
+    let r = first_row_near(cells, first, w, i + 1, count, wanted, near);
+    if r == count {
+        return count;
+    }
+    if cells[first + r * w] == wanted {
+        return r;
+    }
+    count
 }
 
 // The next of a table's rows, from row i on, that has the wanted code at one attribute; their number where none has. Row 0's cell of it lies at `first`.
@@ -42,6 +223,37 @@ fn next_equal(cells: &[u64], first: usize, w: usize, i: usize, count: usize, wan
         r += 1;
     }
     count
+}
+
+// The same, by halving where the column is known not to fall, else row by row.
+fn next_row(
+    cells: &[u64],
+    first: usize,
+    w: usize,
+    i: usize,
+    count: usize,
+    wanted: u64,
+    rising: bool,
+    near: usize,
+) -> usize
+    requires { ⌜ (i ≤ count) × (w ≤ mergedLength) × (first + count * w < length (now cells) + w) × (rising ≡ true → Rising (now cells) first w count) ⌝ }
+    ensures { λ r. ⌜ NextEqual (now (cells .entry)) first w i count wanted r ⌝ }
+{
+    if rising {
+        return next_rising(cells, first, w, i, count, wanted, near);
+    }
+    next_equal(cells, first, w, i, count, wanted)
+}
+
+// Whether the column at this place of a row is known not to fall: it is the first, and that one is.
+// Of the other columns nothing is known.
+fn rises_at(rising: bool, place: usize) -> bool
+    ensures { λ r. ⌜ (r ≡ true → (rising ≡ true) × (place ≡ 0)) ⌝ }
+{
+    if !rising {
+        return false;
+    }
+    place == 0
 }
 
 // Where the cells of a mask's attributes lie in a row of this scheme, by attribute.
@@ -91,6 +303,27 @@ fn fits_placed(
     while rest != 0 {
         let a = words::lowest(rest);
         if merged[a] != cells[start + places[a] as usize] {
+            return false;
+        }
+        rest = words::without_lowest(rest);
+    }
+    true
+}
+
+// Whether the row of this scheme at `start` has the merged codes at the shared attributes, each of them a value.
+// Of one row alone: where its cells lie is worked out attribute by attribute, and no further than they agree.
+fn row_fits(cells: &[u64], scheme: u64, start: usize, shared: u64, merged: &[u64; 64]) -> bool
+    requires { ⌜ (start + ones scheme ≤ length (now cells)) × Under shared scheme ⌝ }
+    ensures { λ r. ⌜ r ≡ matches (now (cells .entry)) scheme start shared (now (merged .entry)) ⌝ }
+{
+    let mut rest = shared;
+    while rest != 0 {
+        let a = words::lowest(rest);
+        let wanted = merged[a];
+        if wanted == 0 {
+            return false;
+        }
+        if cells[start + tables::rank(scheme, a)] != wanted {
             return false;
         }
         rest = words::without_lowest(rest);
@@ -151,14 +384,8 @@ fn merge_add(
 
 // Makes the merged row of a set, and gives its attributes.
 // Each of its rows is read once, from where its table's cells begin.
-fn merge_set(
-    cat: Catalogue,
-    cells: &[u64],
-    firsts: [usize; 8],
-    key: u64,
-    merged: &mut [u64; 64],
-) -> u64
-    requires { ⌜ Lawful cat (length (now cells)) × FirstCells cat firsts × Named cat key × (length (now merged) ≡ mergedLength) ⌝ }
+fn merge_set(cat: Catalogue, cells: &[u64], layout: Layout, key: u64, merged: &mut [u64; 64]) -> u64
+    requires { ⌜ Lawful cat (length (now cells)) × LaidOut cat (now cells) layout × Named cat key × (length (now merged) ≡ mergedLength) ⌝ }
     ensures { λ k. ⌜ Merged cat (now (cells .entry)) (at (setOf cat key)) (now (merged .exit)) k ⌝ }
 {
     let n = cat.n;
@@ -167,7 +394,7 @@ fn merge_set(
     while u < n {
         let r = keys::row_of(key, u) as usize;
         if r != 0 {
-            attrs = merge_add(cells, cat.schemes[u], firsts[u], r, attrs, merged);
+            attrs = merge_add(cells, cat.schemes[u], layout.firsts[u], r, attrs, merged);
         }
         u += 1;
     }
@@ -175,16 +402,18 @@ fn merge_set(
 }
 
 // The first of a table's rows, from 0, that has the merged codes at the shared attributes, at least one; their number where none has.
-// Only a row with the code of the lowest of them is looked at further, and where one of the codes is 0 no row is.
+// Only a row with the code of the lowest of them is looked at further, and where one of the codes is 0 no row is. `rising` says that the first column is known not to fall, and `near` which row to look at first.
 fn first_fit(
     cells: &[u64],
     scheme: u64,
     base: usize,
     count: usize,
     shared: u64,
+    rising: bool,
+    near: usize,
     merged: &[u64; 64],
 ) -> usize
-    requires { ⌜ (rowIn base scheme count ≤ length (now cells)) × Under shared scheme × (0 < shared) ⌝ }
+    requires { ⌜ (rowIn base scheme count ≤ length (now cells)) × Under shared scheme × (0 < shared) × (rising ≡ true → Rising (now cells) base (ones scheme) count) ⌝ }
     ensures { λ r. ⌜ FirstIn count (λ i. matches (now (cells .entry)) scheme (rowIn base scheme i) shared (now (merged .entry))) r ⌝ }
 {
     let a = words::lowest(shared);
@@ -193,8 +422,10 @@ fn first_fit(
         return count;
     }
     let w = tables::width(scheme);
-    let first = base + tables::rank(scheme, a);
-    let mut i = next_equal(cells, first, w, 0, count, wanted);
+    let place = tables::rank(scheme, a);
+    let first = base + place;
+    let halves = rises_at(rising, place);
+    let mut i = next_row(cells, first, w, 0, count, wanted, halves, near);
     if i == count {
         return count;
     }
@@ -204,7 +435,7 @@ fn first_fit(
         if fits_placed(cells, base + i * w, rest, &places, merged) {
             return i;
         }
-        i = next_equal(cells, first, w, i + 1, count, wanted);
+        i = next_row(cells, first, w, i + 1, count, wanted, halves, near);
     }
     count
 }
@@ -220,9 +451,11 @@ fn find_in(
     count: usize,
     attrs: u64,
     closed: u64,
+    rising: u64,
+    near: usize,
     merged: &[u64; 64],
 ) -> usize
-    requires { ⌜ (t < mostTables) × (rowIn base scheme count ≤ length (now cells)) ⌝ }
+    requires { ⌜ (t < mostTables) × (rowIn base scheme count ≤ length (now cells)) × (bitOf rising t ≡ true → Rising (now cells) base (ones scheme) count) ⌝ }
     ensures { λ r. ⌜ ((cat : Catalogue) → TableOf cat (now (cells .entry)) key t scheme base count attrs closed (now (merged .entry)) → FirstIn count (tested cat (now (cells .entry)) key t) r) ⌝ }
 {
     if words::bit_of(closed, t) {
@@ -235,7 +468,8 @@ fn find_in(
     if shared == 0 {
         return count;
     }
-    first_fit(cells, scheme, base, count, shared, merged)
+    let rises = words::bit_of(rising, t);
+    first_fit(cells, scheme, base, count, shared, rises, near, merged)
 }
 
 // The closed tables, after table t of this scheme was walked without a fit to a set with the attributes `attrs`: where it shares one of them, it is closed too.
@@ -252,14 +486,14 @@ fn close_if(scheme: u64, t: usize, attrs: u64, closed: u64) -> u64
 }
 
 // "A round tests rows in row order from the first. The first yes is added and a new round begins; a round without yes ends it."
-// The tests of a table that is passed over are counted all the same: the count is the rule's.
-pub fn extend(cat: Catalogue, cells: &[u64], firsts: [usize; 8], from: u64) -> Grown
-    requires { ⌜ Lawful cat (length (now cells)) × FirstCells cat firsts × Named cat from ⌝ }
+// The tests of a table that is passed over are counted all the same: the count is the rule's. `near` says which row of a table to look at first.
+pub fn extend(cat: Catalogue, cells: &[u64], layout: Layout, from: u64, near: usize) -> Grown
+    requires { ⌜ Lawful cat (length (now cells)) × LaidOut cat (now cells) layout × Named cat from ⌝ }
     ensures { λ e. ⌜ Comes cat (extension (worldOf cat (now (cells .entry))) (setOf cat from)) (e .key) (e .tests) ⌝ }
 {
     let n = cat.n;
     let mut merged: [u64; 64] = [0; 64];
-    let mut attrs = merge_set(cat, cells, firsts, from, &mut merged);
+    let mut attrs = merge_set(cat, cells, layout, from, &mut merged);
     let mut key = from;
     let mut tests: usize = 0;
     let mut closed: u64 = 0;
@@ -270,9 +504,21 @@ pub fn extend(cat: Catalogue, cells: &[u64], firsts: [usize; 8], from: u64) -> G
                 break 'rounds;
             }
             let scheme = cat.schemes[t];
-            let base = firsts[t];
+            let base = layout.firsts[t];
             let count = cat.rows[t] as usize;
-            let i = find_in(cells, key, t, scheme, base, count, attrs, closed, &merged);
+            let i = find_in(
+                cells,
+                key,
+                t,
+                scheme,
+                base,
+                count,
+                attrs,
+                closed,
+                layout.rising,
+                near,
+                &merged,
+            );
             if i < count {
                 let row = i + 1;
                 tests = tests + row;
@@ -284,14 +530,21 @@ pub fn extend(cat: Catalogue, cells: &[u64], firsts: [usize; 8], from: u64) -> G
         };
         let table = found.table;
         let scheme = cat.schemes[table];
-        attrs = merge_add(cells, scheme, firsts[table], found.row, attrs, &mut merged);
+        attrs = merge_add(
+            cells,
+            scheme,
+            layout.firsts[table],
+            found.row,
+            attrs,
+            &mut merged,
+        );
         key = keys::with_row(key, table, found.row as u64);
     }
     Grown { key, tests }
 }
 
 // Whether table u's row of the set has to go: it is another table's than x's, and not consistent with x. The table has this scheme, and its cells begin at `base`.
-// The row of x is given as a merged row, and u's row as a table of one row, so that one comparison serves the row test and the drop.
+// The row of x is given as a merged row, which has a code where it is asked for at once.
 fn parted(
     cells: &[u64],
     key: u64,
@@ -317,16 +570,13 @@ fn parted(
         return false;
     }
     let start = base + (q - 1) * tables::width(scheme);
-    if first_fit(cells, scheme, start, 1, common, merged) == 0 {
-        return false;
-    }
-    true
+    !row_fits(cells, scheme, start, common, merged)
 }
 
 // "Drop from T every row of s's table other than s and every row of another table not consistent with s; add s."
 // The row comes in first, and then what does not fit it goes.
-fn kept(cat: Catalogue, cells: &[u64], firsts: [usize; 8], key: u64, x: Row) -> u64
-    requires { ⌜ Lawful cat (length (now cells)) × FirstCells cat firsts × Named cat key × There cat (x .table) (x .row) ⌝ }
+fn kept(cat: Catalogue, cells: &[u64], layout: Layout, key: u64, x: Row) -> u64
+    requires { ⌜ Lawful cat (length (now cells)) × LaidOut cat (now cells) layout × Named cat key × There cat (x .table) (x .row) ⌝ }
     ensures { λ k. ⌜ KeyFor cat (dropped (worldOf cat (now (cells .entry))) (setOf cat key) (placeOf x)) k ⌝ }
 {
     let n = cat.n;
@@ -336,7 +586,7 @@ fn kept(cat: Catalogue, cells: &[u64], firsts: [usize; 8], key: u64, x: Row) -> 
     let attrs = merge_add(
         cells,
         cat.schemes[table],
-        firsts[table],
+        layout.firsts[table],
         row,
         0,
         &mut merged,
@@ -344,7 +594,16 @@ fn kept(cat: Catalogue, cells: &[u64], firsts: [usize; 8], key: u64, x: Row) -> 
     let mut all = keys::with_row(key, table, row as u64);
     let mut u: usize = 0;
     while u < n {
-        if parted(cells, key, x, u, cat.schemes[u], firsts[u], attrs, &merged) {
+        if parted(
+            cells,
+            key,
+            x,
+            u,
+            cat.schemes[u],
+            layout.firsts[u],
+            attrs,
+            &merged,
+        ) {
             all = keys::with_row(all, u, 0);
         }
         u += 1;
@@ -414,11 +673,11 @@ fn piece_of(cat: Catalogue, all: u64, x: Row) -> u64
 
 // "Trial of row s on set T: drop ..; add s; keep the piece that holds s; extend."
 // The search for the set it comes to is the caller's, who has the store.
-pub fn trial_set(cat: Catalogue, cells: &[u64], firsts: [usize; 8], key: u64, row: Row) -> Grown
-    requires { ⌜ Lawful cat (length (now cells)) × FirstCells cat firsts × Named cat key × There cat (row .table) (row .row) ⌝ }
+pub fn trial_set(cat: Catalogue, cells: &[u64], layout: Layout, key: u64, row: Row) -> Grown
+    requires { ⌜ Lawful cat (length (now cells)) × LaidOut cat (now cells) layout × Named cat key × There cat (row .table) (row .row) ⌝ }
     ensures { λ e. ⌜ Comes cat (trial (worldOf cat (now (cells .entry))) (setOf cat key) (placeOf row)) (e .key) (e .tests) ⌝ }
 {
-    let all = kept(cat, cells, firsts, key, row);
+    let all = kept(cat, cells, layout, key, row);
     let part = piece_of(cat, all, row);
-    extend(cat, cells, firsts, part)
+    extend(cat, cells, layout, part, row.row - 1)
 }

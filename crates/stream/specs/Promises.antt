@@ -6,8 +6,8 @@ use mathlib.Core.Bool.{Bool, true}
 use mathlib.Core.List.{List}
 use lib.Dec.{eqb}
 use Rattle.tables.specs.declared.Catalogue.{Catalogue}
-use Rattle.machine.specs.Machine.{State, stateFor, Trial, done, full, damaged, trialOn, Says, aSet, finished, working, refused, Called, work, Opened}
-use Rattle.machine.specs.Machine.{piled}
+use Rattle.machine.specs.Machine.{State, stateFor, Trial, done, full, damaged, trialOn, Says, aSet, finished, working, refused, Called, piled, work, call}
+use Rattle.machine.specs.Machine.{Opened, opening, openingHolding}
 use Rattle.disjunction.specs.Asked.{Asked, everySet, everyWith}
 use Rattle.disjunction.specs.Rule.{Place, extension, alone}
 use Rattle.keys.specs.Keys.{bitsPerRow, mostTables, rowOf, keyOf}
@@ -16,9 +16,9 @@ use Rattle.rows.specs.World.{worldOf}
 use Rattle.store.specs.Store.{storeIn, filed}
 use Rattle.stream.specs.declared.StreamRecord.{StreamRecord}
 use Rattle.stream.specs.declared.Scope.{Scope}
-use Rattle.stream.specs.declared.RowRecord.{RowRecord}
-use Rattle.stream.specs.declared.RowStepAnswer.{RowStepAnswer}
-use Rattle.stream.specs.declared.RowOpenAnswer.{RowOpenAnswer}
+use Rattle.stream.specs.declared.HoldingRecord.{HoldingRecord}
+use Rattle.stream.specs.declared.HoldingStepAnswer.{HoldingStepAnswer}
+use Rattle.stream.specs.declared.HoldingOpenAnswer.{HoldingOpenAnswer}
 use Rattle.stream.specs.declared.Scope.the-variants.{Every, With}
 use Rattle.stream.specs.declared.Answer.{Answer}
 use Rattle.stream.specs.declared.Answer.the-variants.{Set, Finished, Working, Refused}
@@ -50,9 +50,13 @@ stateWith a s keys left right = stateFor a keys left right (s .found) (s .taken)
 abbrev pub stateOf : StreamRecord → List ℕ → List ℕ → List ℕ → State
 stateOf s keys left right = stateWith everySet s keys left right
 
+-- What a record that names a row is asked for.
+abbrev pub heldBy : HoldingRecord → Asked
+heldBy s = everyWith (record { table = s .table; row = s .row })
+
 -- That of the stream of the sets that hold one row, which its record names.
-abbrev pub rowStateOf : RowRecord → List ℕ → List ℕ → List ℕ → State
-rowStateOf s keys left right = stateWith (everyWith (record { table = s .table; row = s .row })) (s .stream) keys left right
+abbrev pub holdingStateOf : HoldingRecord → List ℕ → List ℕ → List ℕ → State
+holdingStateOf s keys left right = stateWith (heldBy s) (s .stream) keys left right
 
 -- The paper's word for each answer, with its number for each refusal.
 abbrev pub saysOf : Answer → Says
@@ -74,21 +78,54 @@ calledWith a r keys left right row =
       row = row;
     }
 
+-- That of the stream of every set.
 abbrev pub calledOf : StepAnswer → List ℕ → List ℕ → List ℕ → List ℕ → Called
 calledOf r keys left right row = calledWith everySet r keys left right row
 
-abbrev pub calledRow : RowStepAnswer → List ℕ → List ℕ → List ℕ → List ℕ → Called
-calledRow r keys left right row = calledWith (everyWith (record { table = r .table; row = r .row })) (r .step) keys left right row
+-- That of the stream of the sets that hold the row that its record names.
+abbrev pub calledHolding : HoldingStepAnswer → List ℕ → List ℕ → List ℕ → List ℕ → Called
+calledHolding r keys left right row =
+    calledWith (heldBy (r .stream))
+    (record { answer = r .answer; key = r .key; trials = r .trials; tests = r .tests; looks = r .looks; stream = r .stream .stream })
+    keys left right row
 
 -- All that open gave, with what the lent slices hold after it.
 abbrev pub openedWith : Asked → OpenAnswer → List ℕ → List ℕ → List ℕ → Opened
 openedWith a r keys left right = record { refusal = r .refusal; after = stateWith a (r .stream) keys left right; tests = r .tests }
 
+-- That of the stream of every set.
 abbrev pub openedOf : OpenAnswer → List ℕ → List ℕ → List ℕ → Opened
 openedOf r keys left right = openedWith everySet r keys left right
 
-abbrev pub openedRow : RowOpenAnswer → List ℕ → List ℕ → List ℕ → Opened
-openedRow r keys left right = openedWith (everyWith (record { table = r .table; row = r .row })) (r .opened) keys left right
+-- That of the stream of the sets that hold the row that its record names.
+abbrev pub openedHolding : HoldingOpenAnswer → List ℕ → List ℕ → List ℕ → Opened
+openedHolding r keys left right =
+    openedWith (heldBy (r .stream)) (record { refusal = r .refusal; stream = r .stream .stream; tests = r .tests }) keys left right
+
+-- ---- the promises, a name each
+
+-- Open: all that it gave, and all that the store's lists then hold, is the machine's open.
+abbrev pub Opens : Catalogue → List ℕ → List ℕ → List ℕ → List ℕ → OpenAnswer → List ℕ → List ℕ → List ℕ → Type 0
+Opens cat cells keys left right r keys′ left′ right′ = openedOf r keys′ left′ right′ ≡ opening cat cells keys left right
+
+-- The stream call: all that it gave, counts too, and all that the store's lists and the lent row then hold, is the machine's call.
+abbrev pub Steps :
+    Catalogue → List ℕ → List ℕ → List ℕ → List ℕ → StreamRecord → ℕ → List ℕ → StepAnswer → List ℕ → List ℕ → List ℕ → List ℕ → Type 0
+Steps cat cells keys left right s budget row r keys′ left′ right′ row′ =
+    calledOf r keys′ left′ right′ row′ ≡ call cat cells budget (stateOf s keys left right) row
+
+-- Open of the stream of the sets that hold row r of table t.
+abbrev pub OpensHolding : Catalogue → List ℕ → List ℕ → List ℕ → List ℕ → ℕ → ℕ → HoldingOpenAnswer → List ℕ → List ℕ → List ℕ → Type 0
+OpensHolding cat cells keys left right t r o keys′ left′ right′ =
+    openedHolding o keys′ left′ right′ ≡ openingHolding cat cells (record { table = t; row = r }) keys left right
+
+-- A call of that stream.
+abbrev pub StepsHolding :
+    Catalogue → List ℕ → List ℕ → List ℕ → List ℕ → HoldingRecord → ℕ → List ℕ → HoldingStepAnswer → List ℕ → List ℕ → List ℕ → List ℕ → Type 0
+StepsHolding cat cells keys left right s budget row r keys′ left′ right′ row′ =
+    calledHolding r keys′ left′ right′ row′ ≡ call cat cells budget (holdingStateOf s keys left right) row
+
+-- ---- the promises of the parts
 
 -- What open comes to behind its refusals, whatever is asked for: the row s alone, extended, is record 0.
 pub record Begins (cat : Catalogue) (cells : List ℕ) (s : Place) (ks ls rs : List ℕ) (r : OpenAnswer) (ks′ ls′ rs′ : List ℕ) : Type 0 where

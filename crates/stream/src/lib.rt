@@ -4,14 +4,16 @@ ghost use mathlib.Core.Path.{_≡_};
 ghost use Prim.Native.Nat.{_≤_, _<_};
 ghost use lib.ListN.{length};
 ghost use Rattle.tables.specs.Sizes.{mostCells};
-ghost use Rattle.tables.specs.Catalogues.{FirstCells, total};
+ghost use Rattle.tables.specs.Catalogues.{total};
 ghost use Rattle.tables.specs.Checks.{Lawful};
 ghost use Rattle.keys.specs.Keys.{mostTables};
-ghost use Rattle.machine.specs.Machine.{Fit, stray, unfit, callFault, work, call, opening, openingRow};
-ghost use Rattle.stream.specs.Promises.{askedOf, Reached, keyWanted, stateWith, stateOf, rowStateOf, calledWith, calledOf, calledRow, openedOf, openedRow, Begins, Tries, Ends};
+ghost use Rattle.sets.specs.Promises.{LaidOut};
+ghost use Rattle.machine.specs.Machine.{Fit, stray, unfit, callFault, work, call};
+ghost use Rattle.stream.specs.Promises.{askedOf, Reached, keyWanted, stateWith, stateOf, calledWith, Opens, Steps, OpensHolding, StepsHolding, Begins, Tries, Ends};
 ghost use Rattle.store.specs.Store.{roomOf};
 ghost use Rattle.rows.specs.World.{placeOf};
 ghost use Rattle.rows.specs.Named.{There};
+use sets::Layout;
 use store::Placed;
 use tables::Catalogue;
 use tables::Row;
@@ -29,8 +31,8 @@ pub enum Scope {
     With(usize, usize),
 }
 
-// The record of a stream of the sets that hold one row: it names the row.
-pub struct RowRecord {
+// The record of a stream of the sets that hold one row: it names the row beside found, taken and next row.
+pub struct HoldingRecord {
     pub stream: StreamRecord,
     pub table: usize,
     pub row: usize,
@@ -55,10 +57,13 @@ pub struct StepAnswer {
 }
 
 // The same of a stream of the sets that hold one row, which stays the one that its record names.
-pub struct RowStepAnswer {
-    pub step: StepAnswer,
-    pub table: usize,
-    pub row: usize,
+pub struct HoldingStepAnswer {
+    pub answer: Answer,
+    pub key: u64,
+    pub trials: usize,
+    pub tests: usize,
+    pub looks: usize,
+    pub stream: HoldingRecord,
 }
 
 // All that open gives: the refusal (0 for none), the record, and its row tests.
@@ -69,10 +74,10 @@ pub struct OpenAnswer {
 }
 
 // The same of a stream of the sets that hold one row, with the row that its record then names.
-pub struct RowOpenAnswer {
-    pub opened: OpenAnswer,
-    pub table: usize,
-    pub row: usize,
+pub struct HoldingOpenAnswer {
+    pub refusal: usize,
+    pub stream: HoldingRecord,
+    pub tests: usize,
 }
 
 // What a trial comes to: the records found after it, its row tests and its looks; or refusal 12, or 14.
@@ -111,8 +116,8 @@ fn file_first(
 {
     let total = tables::total_rows(cat);
     let alone = keys::with_row(0, first.table, first.row as u64);
-    let firsts = tables::first_cells(cat);
-    let g = sets::extend(cat, cells, firsts, alone);
+    let layout = sets::laid_out(cat, cells, 1);
+    let g = sets::extend(cat, cells, layout, alone, 0);
     store::file_record(keys, left, right, 0, g.key);
     OpenAnswer {
         refusal: 0,
@@ -134,7 +139,7 @@ pub fn open(
     left: &mut [u16],
     right: &mut [u16],
 ) -> OpenAnswer
-    ensures { λ r. ⌜ openedOf r (now (keys .exit)) (now (left .exit)) (now (right .exit)) ≡ opening cat (now (cells .entry)) (now (keys .entry)) (now (left .entry)) (now (right .entry)) ⌝ }
+    ensures { λ r. ⌜ Opens cat (now (cells .entry)) (now (keys .entry)) (now (left .entry)) (now (right .entry)) r (now (keys .exit)) (now (left .exit)) (now (right .exit)) ⌝ }
 {
     let f = tables::fault(cat, cells.len());
     if f != 0 {
@@ -174,21 +179,29 @@ fn missing(cat: Catalogue, scope: Scope) -> bool
     }
 }
 
-// What open gives where it is refused: a record of zeros.
-fn row_unopened(refusal: usize) -> RowOpenAnswer
-    ensures { λ r. ⌜ r ≡ record { opened = record { refusal = refusal; stream = record { found = 0; taken = 0; «next_row» = 0 }; tests = 0 }; table = 0; row = 0 } ⌝ }
+// What open gave of the sets that hold one row, with the row that its record names.
+fn held(opened: OpenAnswer, table: usize, row: usize) -> HoldingOpenAnswer
+    ensures { λ r. ⌜ r ≡ record { refusal = opened .refusal; stream = record { stream = opened .stream; table = table; row = row }; tests = opened .tests } ⌝ }
+{
+    let stream = opened.stream;
+    HoldingOpenAnswer {
+        refusal: opened.refusal,
+        stream: HoldingRecord { stream, table, row },
+        tests: opened.tests,
+    }
+}
+
+// What that open gives where it is refused: a record of zeros.
+fn unopened_holding(refusal: usize) -> HoldingOpenAnswer
+    ensures { λ r. ⌜ r ≡ record { refusal = refusal; stream = record { stream = record { found = 0; taken = 0; «next_row» = 0 }; table = 0; row = 0 }; tests = 0 } ⌝ }
 {
     let opened = unopened(refusal);
-    RowOpenAnswer {
-        opened,
-        table: 0,
-        row: 0,
-    }
+    held(opened, 0, 0)
 }
 
 // Opens a stream of the sets that hold one row: that row alone, extended, becomes record 0 of the store.
 // Everything is checked before the first record is written.
-pub fn open_row(
+pub fn open_holding(
     cat: Catalogue,
     cells: &[u64],
     keys: &mut [u64],
@@ -196,22 +209,22 @@ pub fn open_row(
     right: &mut [u16],
     table: usize,
     row: usize,
-) -> RowOpenAnswer
-    ensures { λ r. ⌜ openedRow r (now (keys .exit)) (now (left .exit)) (now (right .exit)) ≡ openingRow cat (now (cells .entry)) (record { table = table; row = row }) (now (keys .entry)) (now (left .entry)) (now (right .entry)) ⌝ }
+) -> HoldingOpenAnswer
+    ensures { λ r. ⌜ OpensHolding cat (now (cells .entry)) (now (keys .entry)) (now (left .entry)) (now (right .entry)) table row r (now (keys .exit)) (now (left .exit)) (now (right .exit)) ⌝ }
 {
     let f = tables::fault(cat, cells.len());
     if f != 0 {
-        return row_unopened(f);
+        return unopened_holding(f);
     }
     if missing(cat, Scope::With(table, row)) {
-        return row_unopened(19);
+        return unopened_holding(19);
     }
     let room = store::room(keys, left, right);
     if room == 0 {
-        return row_unopened(12);
+        return unopened_holding(12);
     }
     let opened = file_first(cat, cells, keys, left, right, Row { table, row });
-    RowOpenAnswer { opened, table, row }
+    held(opened, table, row)
 }
 
 // Whether a set, by its key, is asked for.
@@ -300,14 +313,14 @@ fn fault(
 fn trial(
     cat: Catalogue,
     cells: &[u64],
-    firsts: [usize; 8],
+    layout: Layout,
     keys: &mut [u64],
     left: &mut [u16],
     right: &mut [u16],
     s: StreamRecord,
     scope: Scope,
 ) -> Tried
-    requires { ⌜ Lawful cat (length (now cells)) × FirstCells cat firsts × Fit cat (stateWith (askedOf scope) s (now keys) (now left) (now right)) × (s .«next_row» < total cat) ⌝ }
+    requires { ⌜ Lawful cat (length (now cells)) × LaidOut cat (now cells) layout × Fit cat (stateWith (askedOf scope) s (now keys) (now left) (now right)) × (s .«next_row» < total cat) ⌝ }
     ensures { λ r. ⌜ Tries cat (now (cells .entry)) (askedOf scope) s (now (keys .entry)) (now (left .entry)) (now (right .entry)) r (now (keys .exit)) (now (left .exit)) (now (right .exit)) ⌝ }
 {
     let last = s.taken - 1;
@@ -316,7 +329,7 @@ fn trial(
         return Tried::Damaged;
     }
     let row = tables::row_at(cat, s.next_row);
-    let g = sets::trial_set(cat, cells, firsts, key, row);
+    let g = sets::trial_set(cat, cells, layout, key, row);
     let found = s.found;
     if !wants(scope, g.key) {
         return Tried::Done(found, g.tests, 0);
@@ -403,7 +416,7 @@ fn work(
     requires { ⌜ Lawful cat (length (now cells)) × Fit cat (stateWith (askedOf scope) s (now keys) (now left) (now right)) × (cat .m ≤ length (now padded)) ⌝ }
     ensures { λ r. ⌜ calledWith (askedOf scope) r (now (keys .exit)) (now (left .exit)) (now (right .exit)) (now (padded .exit)) ≡ work cat (now (cells .entry)) budget (stateWith (askedOf scope) s (now (keys .entry)) (now (left .entry)) (now (right .entry))) (now (padded .entry)) ⌝ }
 {
-    let firsts = tables::first_cells(cat);
+    let layout = sets::laid_out(cat, cells, budget);
     let total = tables::total_rows(cat);
     let taken = s.taken;
     let mut found = s.found;
@@ -421,7 +434,7 @@ fn work(
         if spare == 0 {
             return told(Answer::Working, q, trials, tests, looks);
         }
-        match trial(cat, cells, firsts, keys, left, right, q, scope) {
+        match trial(cat, cells, layout, keys, left, right, q, scope) {
             Tried::Done(f, t, l) => {
                 found = f;
                 next_row = next_row + 1;
@@ -479,7 +492,7 @@ pub fn step(
     budget: usize,
     padded: &mut [u64],
 ) -> StepAnswer
-    ensures { λ r. ⌜ calledOf r (now (keys .exit)) (now (left .exit)) (now (right .exit)) (now (padded .exit)) ≡ call cat (now (cells .entry)) budget (stateOf stream (now (keys .entry)) (now (left .entry)) (now (right .entry))) (now (padded .entry)) ⌝ }
+    ensures { λ r. ⌜ Steps cat (now (cells .entry)) (now (keys .entry)) (now (left .entry)) (now (right .entry)) stream budget (now (padded .entry)) r (now (keys .exit)) (now (left .exit)) (now (right .exit)) (now (padded .exit)) ⌝ }
 {
     call(
         cat,
@@ -496,22 +509,35 @@ pub fn step(
 
 // One call of a stream of the sets that hold one row.
 // Its trials are those of any stream; those whose set lacks the row make no search.
-pub fn step_row(
+pub fn step_holding(
     cat: Catalogue,
     cells: &[u64],
     keys: &mut [u64],
     left: &mut [u16],
     right: &mut [u16],
-    stream: RowRecord,
+    stream: HoldingRecord,
     budget: usize,
     padded: &mut [u64],
-) -> RowStepAnswer
-    ensures { λ r. ⌜ calledRow r (now (keys .exit)) (now (left .exit)) (now (right .exit)) (now (padded .exit)) ≡ call cat (now (cells .entry)) budget (rowStateOf stream (now (keys .entry)) (now (left .entry)) (now (right .entry))) (now (padded .entry)) ⌝ }
+) -> HoldingStepAnswer
+    ensures { λ r. ⌜ StepsHolding cat (now (cells .entry)) (now (keys .entry)) (now (left .entry)) (now (right .entry)) stream budget (now (padded .entry)) r (now (keys .exit)) (now (left .exit)) (now (right .exit)) (now (padded .exit)) ⌝ }
 {
     let table = stream.table;
     let row = stream.row;
     let before = stream.stream;
     let scope = Scope::With(table, row);
-    let step = call(cat, cells, keys, left, right, before, scope, budget, padded);
-    RowStepAnswer { step, table, row }
+    let r = call(cat, cells, keys, left, right, before, scope, budget, padded);
+    let answer = r.answer;
+    let after = r.stream;
+    HoldingStepAnswer {
+        answer,
+        key: r.key,
+        trials: r.trials,
+        tests: r.tests,
+        looks: r.looks,
+        stream: HoldingRecord {
+            stream: after,
+            table,
+            row,
+        },
+    }
 }

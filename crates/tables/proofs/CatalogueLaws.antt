@@ -22,6 +22,11 @@ one-shl a h = shl-exact 1 a 64 (omega arith) (omega arith) ∙ omega arith
 pub cells-few : (rows scheme : ℕ) → rows ≤ mostRows → scheme < 2 ^ 64 → rows * ones scheme ≤ 16320
 cells-few rows scheme h l = mul-le-mul h (ones-le 64 scheme l)
 
+-- where the scheme has no attribute below a, none is counted
+pub rank-none : (scheme a : ℕ) → scheme % 2 ^ a ≡ 0 → 0 ≡ ones (scheme % 2 ^ a)
+unfolding ones
+rank-none scheme a z = rw z
+
 -- the cell of an attribute that the scheme has lies inside its row
 pub rank-lt : (scheme a : ℕ) → scheme / 2 ^ a % 2 ≡ 1 → ones (scheme % 2 ^ a) < ones scheme
 rank-lt s a h =

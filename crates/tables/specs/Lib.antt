@@ -2,3 +2,4 @@ pub mod Sizes
 pub mod Catalogues
 pub mod Rows
 pub mod Checks
+pub mod Sample

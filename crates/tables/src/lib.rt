@@ -29,12 +29,16 @@ pub fn width(scheme: u64) -> usize
 }
 
 // How many attributes below `a` the scheme has: the place of a's cell in its row.
-// Cells lie by rising attribute.
+// Cells lie by rising attribute. Often it is the first that is asked for, and then nothing is counted.
 pub fn rank(scheme: u64, a: usize) -> usize
     requires { ⌜ a < 64 ⌝ }
     ensures { λ r. ⌜ r ≡ ones (scheme % 2 ^ a) ⌝ }
 {
-    width(scheme % (1 << a))
+    let below = scheme % (1 << a);
+    if below == 0 {
+        return 0;
+    }
+    width(below)
 }
 
 // 4 where m or n is out of range, else 0.
@@ -105,7 +109,7 @@ pub fn table_fault(m: usize, lent: usize, used: usize, scheme: u64, rows: u64) -
 }
 
 // The first refusal of the whole catalogue (4; then table by table 5, 6, 8), or 0; `lent` cells are lent.
-// Every public call makes this test first, so that all behind it may rely on a lawful catalogue.
+// Open and the stream calls make this test first, so that all behind it may rely on a lawful catalogue; the writer makes it table by table.
 pub fn fault(cat: Catalogue, lent: usize) -> usize
     ensures { λ r. ⌜ r ≡ catalogueFault cat lent ⌝ }
 {

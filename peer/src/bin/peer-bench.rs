@@ -1,13 +1,21 @@
 //! Times the library beside the same rule in Rust, as worded and with shortcuts, in one run: ratios, never seconds alone.
-//! Use: peer-bench [repeats], peer-bench lists for the checks of lists alone, or peer-bench sql for the chain's tables and their nested full outer joins as SQL.
+//! Use: peer-bench [repeats]; peer-bench rows for the streams of one row alone, peer-bench lists for the checks of lists; peer-bench once LETTER FORM for one drain of a case by one form (0 the
+//! library, 1 as worded, 2 with shortcuts), whose instructions callgrind counts; peer-bench listings PROGRAM [repeats] for the listing program beside a
+//! plain listing in Rust, which is peer-bench list of the image on standard input; or peer-bench sql for the chain's tables and their nested full outer
+//! joins as SQL.
 #![forbid(unsafe_code)]
 use peer::image::{self, Catalogue};
 use peer::make::{self, Tables};
 use peer::random::Random;
-use peer::rule::{self, Answer, Outcome, Record, Store};
-use peer::words::{self, Call, RECORD, RESULT};
+use peer::listing::{self, Next, Open};
+use peer::rule::{self, Answer, Asked, Outcome, Store};
+use peer::words::{self, Call, HOLDING, RESULT};
 use peer::{library, swift};
+use std::fs::{self, File};
 use std::hint::black_box;
+use std::io::{self, Read, Write};
+use std::path::Path;
+use std::process::{Command, Stdio};
 use std::time::Instant;
 
 /// The records that a drain is lent.
@@ -55,37 +63,41 @@ impl Room {
     }
 }
 
-/// Drains the tables by the library's calls for C.
-fn by_library(tables: &Tables, room: &mut Room) -> Drained {
+/// Drains the tables by the library's calls for C, each with this budget: of every set, or of those that hold a row of a table.
+fn by_library(tables: &Tables, room: &mut Room, asked: Asked, budget: u64) -> Drained {
     let catalogue = words::words_of(&tables.catalogue);
-    let (mut store, mut record, mut result, mut padded) = (room.store(), [0; RECORD], [0; RESULT], [0; 63]);
-    let mut drained = Drained { row_tests: library::open(&catalogue, &tables.cells, &mut store, &mut record) / 32, ..Drained::default() };
+    let (mut store, mut record, mut result, mut padded) = (room.store(), [0; HOLDING], [0; RESULT], [0; 63]);
+    let next = if asked == Asked::EverySet { library::next } else { library::next_holding };
+    let opened = match asked {
+        Asked::EverySet => library::open(&catalogue, &tables.cells, &mut store, &mut record),
+        Asked::Holding { table, row } => library::open_holding(&catalogue, &tables.cells, &mut store, table, row, &mut record),
+    };
+    let mut drained = Drained { row_tests: opened / 32, ..Drained::default() };
     loop {
-        let call = Call { record: &mut record, budget: u64::MAX, padded: &mut padded, result: &mut result };
-        let answer = library::next(&catalogue, &tables.cells, &mut store, call);
+        let call = Call { record: &mut record, budget, padded: &mut padded, result: &mut result };
+        let answer = next(&catalogue, &tables.cells, &mut store, call);
         drained.call([result[1], result[2], result[3]]);
         match answer {
             32 => drained.set(result[0], &padded[..tables.catalogue.m as usize]),
             64 => return drained,
+            96 => (),
             other => panic!("the library answers {other}"),
         }
     }
 }
 
-type Open = fn(&Catalogue, &[u64], &mut Store) -> Result<(Record, u64), peer::refusal::Refusal>;
-type Next = fn(&Catalogue, &[u64], &mut Store, &mut Record, u64, &mut [u64]) -> (Outcome, rule::Counts);
-
-/// Drains the tables by one of the two forms in Rust.
-fn by_rust(tables: &Tables, room: &mut Room, open: Open, next: Next) -> Drained {
+/// Drains the tables by one of the two forms in Rust, each call with this budget.
+fn by_rust(tables: &Tables, room: &mut Room, budget: u64, open: Open, next: Next) -> Drained {
     let (mut store, mut padded) = (room.store(), [0; 63]);
     let (mut record, row_tests) = open(&tables.catalogue, &tables.cells, &mut store).expect("open is refused");
     let mut drained = Drained { row_tests, ..Drained::default() };
     loop {
-        let (outcome, counts) = next(&tables.catalogue, &tables.cells, &mut store, &mut record, u64::MAX, &mut padded);
+        let (outcome, counts) = next(&tables.catalogue, &tables.cells, &mut store, &mut record, budget, &mut padded);
         drained.call([counts.trials, counts.row_tests, counts.looks]);
         match outcome {
             Outcome::Answered(Answer::Set(key)) => drained.set(key, &padded[..tables.catalogue.m as usize]),
             Outcome::Answered(Answer::Finished) => return drained,
+            Outcome::Answered(Answer::Working) => (),
             other => panic!("the rule in Rust answers {other:?}"),
         }
     }
@@ -133,18 +145,50 @@ fn sql(made: &Tables) -> String {
     text + &format!("-- query\nselect * from t0 {}\n", joins.join(" "))
 }
 
-/// (a) to (e), each with its name.
-fn cases() -> Vec<(&'static str, Tables)> {
+/// Eight tables that share a tick, each with an attribute of its own.
+fn ticks() -> Tables {
+    let shapes: Vec<(u64, u16)> = (0..8).map(|table| (1 | 2 << table, 255)).collect();
+    tables(9, &shapes, |_, row, a| if a == 0 { 1 + row } else { row % 100 + 1 })
+}
+
+/// The same tables with the rows of each in falling order. A stream takes them; an image they make not.
+fn turned(mut made: Tables) -> Tables {
+    let mut place = 0;
+    for table in 0..made.catalogue.n as usize {
+        let (size, width) = (made.catalogue.size(table), made.catalogue.width(table));
+        let rows: Vec<u64> = made.cells[place..place + size].chunks(width).rev().flatten().copied().collect();
+        made.cells[place..place + size].copy_from_slice(&rows);
+        place += size;
+    }
+    made
+}
+
+/// A case: its letter and name, its tables, and the budget of each call of a drain.
+struct Case {
+    letter: &'static str,
+    name: &'static str,
+    tables: Tables,
+    budget: u64,
+}
+
+/// A case that is drained with all the trials that a call can make.
+fn case(letter: &'static str, name: &'static str, tables: Tables) -> Case {
+    Case { letter, name, tables, budget: u64::MAX }
+}
+
+/// (a) to (e), (h) and (i).
+fn cases() -> Vec<Case> {
     let mut random = Random::new(7);
-    let tick: Vec<(u64, u16)> = (0..8).map(|table| (1 | 2 << table, 255)).collect();
     let wide = [((1 << 63) - 1, 43), ((1 << 63) - 1, 43), ((1 << 63) - 1, 43)];
     let dense: Vec<(u64, u16)> = [0b00111, 0b01110, 0b11100, 0b11001, 0b10011, 0b10101, 0b01010, 0b01101].iter().map(|&scheme| (scheme, 24)).collect();
     vec![
-        ("a star of four tables, 4,096 sets", make::star(&[8, 8, 8, 8])),
-        ("a chain of eight tables of 60 rows", chain()),
-        ("eight tables of 255 rows sharing a tick", tables(9, &tick, |_, row, a| if a == 0 { 1 + row } else { row % 100 + 1 })),
-        ("three tables of 63 attributes", tables(63, &wide, |table, row, a| if a == 62 && row % 3 == table as u64 { row } else { row % 5 + 2 })),
-        ("dense random tables", tables(5, &dense, |_, _, _| random.below(5))),
+        case("a", "a star of four tables, 4,096 sets", make::star(&[8, 8, 8, 8])),
+        case("b", "a chain of eight tables of 60 rows", chain()),
+        case("c", "eight tables of 255 rows sharing a tick", ticks()),
+        case("d", "three tables of 63 attributes", tables(63, &wide, |table, row, a| if a == 62 && row % 3 == table as u64 { row } else { row % 5 + 2 })),
+        case("e", "dense random tables", tables(5, &dense, |_, _, _| random.below(5))),
+        case("h", "(c) with rows in falling order", turned(ticks())),
+        Case { letter: "i", name: "(c) with budget 1", tables: ticks(), budget: 1 },
     ]
 }
 
@@ -164,21 +208,54 @@ fn best<const FORMS: usize>(repeats: usize, mut run: impl FnMut(usize)) -> [f64;
     best
 }
 
+/// Room for the longest drain.
+fn room() -> Room {
+    Room { keys: vec![0; RECORDS], left: vec![0; RECORDS], right: vec![0; RECORDS] }
+}
+
+/// One drain of a case by one of the three forms.
+fn drained(case: &Case, room: &mut Room, form: usize) -> Drained {
+    match form {
+        0 => by_library(&case.tables, room, Asked::EverySet, case.budget),
+        1 => by_rust(&case.tables, room, case.budget, rule::open, rule::next),
+        _ => by_rust(&case.tables, room, case.budget, swift::open, swift::next),
+    }
+}
+
 /// Drains one case in the three forms, compares them, and prints the ratios.
-fn drain(name: &str, tables: &Tables, repeats: usize) {
-    let mut room = Room { keys: vec![0; RECORDS], left: vec![0; RECORDS], right: vec![0; RECORDS] };
-    let form = |room: &mut Room, form: usize| match form {
-        0 => by_library(tables, room),
-        1 => by_rust(tables, room, rule::open, rule::next),
-        _ => by_rust(tables, room, swift::open, swift::next),
-    };
-    let ours = form(&mut room, 0);
-    assert_eq!(ours, form(&mut room, 1), "{name}: the rule as worded differs");
-    assert_eq!(ours, form(&mut room, 2), "{name}: the rule with shortcuts differs");
+fn drain(case: &Case, repeats: usize) {
+    let mut room = room();
+    let ours = drained(case, &mut room, 0);
+    assert_eq!(ours, drained(case, &mut room, 1), "{}: the rule as worded differs", case.name);
+    assert_eq!(ours, drained(case, &mut room, 2), "{}: the rule with shortcuts differs", case.name);
     let [library, worded, swift] = best(repeats, |number| {
-        black_box(form(&mut room, number));
+        black_box(drained(case, &mut room, number));
     });
-    println!("{name:<42} {:>6} sets  {:>9.6} s  {:>6.3} of worded  {:>6.3} of shortcuts", ours.sets, library, library / worded, library / swift);
+    let each = library / ours.trials as f64 * 1e9;
+    println!(
+        "({}) {:<40} {:>6} sets  {library:>9.6} s  {each:>6.0} ns a trial  {:>6.3} of worded  {:>6.3} of shortcuts",
+        case.letter, case.name, ours.sets, library / worded, library / swift
+    );
+}
+
+/// Rows of the cases of that letter, by table and number: few of a case's sets hold one, of the star an eighth.
+const ROWS: [(&str, u64, u64); 4] = [("a", 3, 8), ("b", 4, 30), ("c", 7, 200), ("e", 7, 20)];
+
+/// Drains the stream of one row and that of every set, and prints the first beside the second. A stream's trials are N for each of its sets.
+fn row_drain(case: &Case, table: u64, row: u64, repeats: usize) {
+    let mut room = room();
+    let rows: u64 = case.tables.catalogue.rows.iter().map(|&rows| u64::from(rows)).sum();
+    let streams = [Asked::Holding { table, row }, Asked::EverySet];
+    let [ours, all] = streams.map(|asked| by_library(&case.tables, &mut room, asked, case.budget));
+    assert!(ours.trials == ours.sets * rows && all.trials == all.sets * rows, "{}: {ours:?} of {all:?} in {rows} rows", case.name);
+    let [time, whole] = best(repeats, |number| {
+        black_box(by_library(&case.tables, &mut room, streams[number], case.budget));
+    });
+    let trials = ours.trials as f64 / all.trials as f64;
+    println!(
+        "({}) table {table}, row {row:<3} {:>4} of {:>4} sets  {:>5} of {:>6} trials  {time:>9.6} s  {trials:>6.4} of the trials  {:>6.4} of the time",
+        case.letter, ours.sets, all.sets, ours.trials, all.trials, time / whole
+    );
 }
 
 /// Checks one image in both forms and prints the ratio.
@@ -197,9 +274,33 @@ fn check(name: &str, tables: &Tables, repeats: usize) {
     println!("{name:<42} {:>6} bytes {:>9.6} s  {:>6.3} of a Rust reading", image.len(), library / rounds as f64, library / rust);
 }
 
+/// Tables of 8,192 cells, as many as an image ever has: eight of eight attributes and 128 rows, every code from `least` on and near it.
+fn full(least: u64) -> Tables {
+    let shapes = [(0xff, 128); 8];
+    tables(8, &shapes, |table, row, a| if a == 0 { least + row - 1 } else { least + (row + table as u64 + u64::from(a)) % 100 })
+}
+
+/// Writes one image in both forms and prints the ratio.
+fn write(name: &str, tables: &Tables, repeats: usize) {
+    let catalogue = words::words_of(&tables.catalogue);
+    let mut out = make::good(tables);
+    let answer = 32 * out.len() as u64;
+    let rounds = 20_000_000 / out.len();
+    let [library, rust] = best(repeats, |form| {
+        for _ in 0..rounds {
+            let lent = black_box(&mut out);
+            match form {
+                0 => assert!(library::write(&catalogue, &tables.cells, lent) == answer),
+                _ => assert!(words::write(&catalogue, &tables.cells, lent) == answer),
+            }
+        }
+    });
+    println!("{name:<42} {:>6} bytes {:>9.6} s  {:>6.3} of a Rust writing", out.len(), library / rounds as f64, library / rust);
+}
+
 /// The keys of all sets of the tables, as the library hands them out.
 fn keys_of(tables: &Tables, room: &mut Room) -> Vec<u64> {
-    let drained = by_library(tables, room);
+    let drained = by_library(tables, room, Asked::EverySet, u64::MAX);
     room.keys[..drained.sets as usize].to_vec()
 }
 
@@ -220,7 +321,7 @@ fn check_list(tables: &Tables, list: &[u64]) {
 
 /// Checks the star's list in three orders beside the drain of the same tables, and lists of more and more sets at the same N.
 fn lists(repeats: usize) {
-    let mut room = Room { keys: vec![0; RECORDS], left: vec![0; RECORDS], right: vec![0; RECORDS] };
+    let mut room = room();
     let star = make::star(&[8, 8, 8, 8]);
     let handed = keys_of(&star, &mut room);
     let mut sorted = handed.clone();
@@ -229,7 +330,7 @@ fn lists(repeats: usize) {
     for (name, list) in &orders {
         let [checked, drained] = best(repeats, |form| match form {
             0 => check_list(&star, list),
-            _ => drop(black_box(by_library(&star, &mut room))),
+            _ => drop(black_box(by_library(&star, &mut room, Asked::EverySet, u64::MAX))),
         });
         println!("the star's list, {name:<26} {:>6} sets  {checked:>9.6} s  {:>6.3} of the drain", list.len(), checked / drained);
     }
@@ -241,25 +342,90 @@ fn lists(repeats: usize) {
     }
 }
 
-/// Times every case, first the drains, then the checks of their images, then the checks of lists.
+/// Lists one image by the listing program and by this one, each a process of its own that is read through a pipe, and prints the ratio.
+/// Both have to print the same before they are timed.
+fn list(name: &str, tables: &Tables, repeats: usize, program: &Path) {
+    let file = std::env::temp_dir().join(format!("harbour-bench-{}", std::process::id()));
+    fs::write(&file, make::good(tables)).expect("the image is not written");
+    let own = std::env::current_exe().expect("this program has no path");
+    let run = |form: usize| {
+        let mut command = if form == 0 { Command::new(program) } else { Command::new(&own) };
+        let image = File::open(&file).expect("the image is not there");
+        if form == 1 {
+            command.arg("list");
+        }
+        command.stdin(Stdio::from(image)).output().expect("a listing does not run").stdout
+    };
+    let text = run(0);
+    assert!(text == run(1), "{name}: the listings differ");
+    let [ours, rust] = best(repeats, |form| {
+        black_box(run(form));
+    });
+    fs::remove_file(&file).expect("the image stays");
+    println!("{name:<42} {:>6} bytes {:>9.6} s  {:>6.3} of a Rust listing", text.len(), ours, ours / rust);
+}
+
+/// The plain listing of the image on standard input, by the rule with shortcuts.
+fn listed() {
+    let mut input = Vec::new();
+    io::stdin().take(listing::INPUT as u64 + 1).read_to_end(&mut input).expect("standard input is not read");
+    let text = listing::list_by(&input, swift::open, swift::next);
+    io::stdout().write_all(text.as_bytes()).expect("standard output is not written");
+}
+
+/// Times the listings of (a) to (e).
+fn listings(program: &Path, repeats: usize) {
+    println!("listings, the best of {repeats}:");
+    for case in cases().iter().filter(|case| "abcde".contains(case.letter)) {
+        list(case.name, &case.tables, repeats, program);
+    }
+}
+
+/// Does what its words say.
 fn main() {
-    let word = std::env::args().nth(1);
-    if word.as_deref() == Some("sql") {
-        return print!("{}", sql(&chain()));
+    let words: Vec<String> = std::env::args().skip(1).collect();
+    let use_ = "use: peer-bench [repeats] | rows | lists | once LETTER FORM | listings PROGRAM [repeats] | list | sql";
+    match words.iter().map(String::as_str).collect::<Vec<_>>()[..] {
+        ["sql"] => print!("{}", sql(&chain())),
+        ["list"] => listed(),
+        ["listings", program] => listings(Path::new(program), 5),
+        ["listings", program, repeats] => listings(Path::new(program), repeats.parse().expect(use_)),
+        ["once", letter, form] => {
+            let case = cases().into_iter().find(|case| case.letter == letter).expect(use_);
+            println!("{:?}", drained(&case, &mut room(), form.parse().expect(use_)));
+        }
+        ["rows"] => rows(5),
+        ["lists"] => lists(5),
+        [] => all(5),
+        [repeats] => all(repeats.parse().expect(use_)),
+        _ => panic!("{use_}"),
     }
-    if word.as_deref() == Some("lists") {
-        return lists(7);
+}
+
+/// Times the drains of the sets that hold one row.
+fn rows(repeats: usize) {
+    println!("drains of the sets that hold one row, beside those of every set, the best of {repeats}:");
+    for (letter, table, row) in ROWS {
+        let case = cases().into_iter().find(|case| case.letter == letter).expect("no such case");
+        row_drain(&case, table, row, repeats);
     }
-    let repeats = word.map_or(5, |word| word.parse().expect("use: peer-bench [repeats] | lists | sql"));
+}
+
+/// Times every case, first the drains, then those of one row, then the checks of the images of (a) to (e), the largest images written, and lists checked.
+fn all(repeats: usize) {
     assert!(!library::MOCK, "without the library there is nothing to time");
     println!("drains, the best of {repeats}:");
-    for (name, tables) in cases() {
-        drain(name, &tables, repeats);
+    for case in cases() {
+        drain(&case, repeats);
     }
+    rows(repeats);
     println!("checks of the same images, the best of {repeats}:");
-    for (name, tables) in cases() {
-        check(name, &tables, repeats);
+    for case in cases().iter().filter(|case| "abcde".contains(case.letter)) {
+        check(case.name, &case.tables, repeats);
     }
+    println!("the largest images written, the best of {repeats}:");
+    write("8,192 cells, codes below 128", &full(0), repeats);
+    write("8,192 cells, codes near 2^63", &full((1 << 63) - 200), repeats);
     println!("checks of lists, the best of {repeats}:");
     lists(repeats);
 }

@@ -13,13 +13,13 @@ use Rattle.hub.proofs.first_missing.Statement.{statement}
 use Rattle.hub.proofs.first_missing.Tie as tie
 
 abbrev Inv-loop : tie.InvT-loop
-Inv-loop cat cells firsts listed left right count i₀ i =
+Inv-loop cat cells layout listed left right count i₀ i =
     (i ≤ count)
     × (seek (wordSets cat listed) (triedOn (worldOf cat cells) (wordSets cat listed))
     ≡ seek (wordSets cat listed) (triedOn (worldOf cat cells) (drop i (wordSets cat listed))))
 
 abbrev μ-loop : tie.MeasureT-loop
-μ-loop cat cells firsts listed left right count i₀ i = count - i
+μ-loop cat cells layout listed left right count i₀ i = count - i
 
 loop-holds : tie.Need-loop-holds Inv-loop μ-loop
 loop-holds c = (omega arith, refl)

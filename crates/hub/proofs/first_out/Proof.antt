@@ -21,13 +21,13 @@ use Rattle.hub.proofs.first_out.Statement.{statement}
 use Rattle.hub.proofs.first_out.Tie as tie
 
 abbrev Inv-loop : tie.InvT-loop
-Inv-loop cat cells firsts listed left right key n count total j₀ j =
+Inv-loop cat cells layout listed left right key n count total j₀ j =
     (j ≤ total)
     × (seek (wordSets cat listed) (tried (worldOf cat cells) (setOf cat key) (rows (worldOf cat cells)))
     ≡ seek (wordSets cat listed) (tried (worldOf cat cells) (setOf cat key) (drop j (rows (worldOf cat cells)))))
 
 abbrev μ-loop : tie.MeasureT-loop
-μ-loop cat cells firsts listed left right key n count total j₀ j = total - j
+μ-loop cat cells layout listed left right key n count total j₀ j = total - j
 
 total-rows-requires : tie.Need-total-rows-requires Inv-loop μ-loop
 total-rows-requires c κs = lawful-all _ _ (c .before .before .before .before .pre .0)

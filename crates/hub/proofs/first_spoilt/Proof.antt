@@ -20,7 +20,7 @@ use Rattle.hub.proofs.first_spoilt.Statement.{statement}
 use Rattle.hub.proofs.first_spoilt.Tie as tie
 
 abbrev Inv-loop : tie.InvT-loop
-Inv-loop cat cells firsts listed left₀ right₀ n count i₀ left right i =
+Inv-loop cat cells layout listed left₀ right₀ n count i₀ left right i =
     (i ≤ count)
     × ((v : ℕ) → v < i → spoilt (worldOf cat cells) (wordSets cat listed) v ≡ false)
     × Linked n listed left right (recordsOf i)
@@ -28,7 +28,7 @@ Inv-loop cat cells firsts listed left₀ right₀ n count i₀ left right i =
     × (length right ≡ length right₀)
 
 abbrev μ-loop : tie.MeasureT-loop
-μ-loop cat cells firsts listed left₀ right₀ n count i₀ left right i = count - i
+μ-loop cat cells layout listed left₀ right₀ n count i₀ left right i = count - i
 
 loop-holds : tie.Need-loop-holds Inv-loop μ-loop
 loop-holds c = (omega arith, λ v l. absurd (omega arith), c .before .before .before .before .pre .2, refl, refl)

@@ -16,10 +16,10 @@ use Rattle.hub.proofs.is_maximal.Statement.{statement}
 use Rattle.hub.proofs.is_maximal.Tie as tie
 
 abbrev Inv-loop : tie.InvT-loop
-Inv-loop cat cells firsts word n t₀ t = (t ≤ n) × ((v : ℕ) → v < t → givesBack (worldOf cat cells) (setOf cat word) v ≡ true)
+Inv-loop cat cells layout word n t₀ t = (t ≤ n) × ((v : ℕ) → v < t → givesBack (worldOf cat cells) (setOf cat word) v ≡ true)
 
 abbrev μ-loop : tie.MeasureT-loop
-μ-loop cat cells firsts word n t₀ t = n - t
+μ-loop cat cells layout word n t₀ t = n - t
 
 key-named-requires : tie.Need-key-named-requires Inv-loop μ-loop
 key-named-requires c κs = lawful-all _ _ (c .before .pre .0)

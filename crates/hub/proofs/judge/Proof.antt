@@ -5,7 +5,6 @@ use Prim.Native.Nat.{ℕ, _<_}
 use mathlib.Core.Path.{_≡_, sym, ap, subst, _∙_}
 use mathlib.Core.List.{List}
 use lib.ListN.{length}
-use Rattle.tables.proofs.CatalogueLaws.{lawful-all}
 use Rattle.rows.specs.World.{worldOf}
 use Rattle.sets.specs.Promises.{FirstIn}
 use Rattle.hub.specs.Verdicts.{spoilt, verdict}
@@ -15,11 +14,11 @@ use Rattle.hub.proofs.JudgingLaws.{empty-sets, judged-entry, judged-res
 use Rattle.hub.proofs.judge.Statement.{statement}
 use Rattle.hub.proofs.judge.Tie as tie
 
-first-cells-requires : tie.Need-first-cells-requires
-first-cells-requires c κs = lawful-all _ _ (c .before .before .pre)
+laid-out-requires : tie.Need-laid-out-requires
+laid-out-requires c κs = c .before .before .pre
 
 judge-none-requires : tie.Need-judge-none-requires
-judge-none-requires c κs = (c .before .before .before .before .pre, c .before .first-cells .ensures)
+judge-none-requires c κs = (c .before .before .before .before .pre, c .before .laid-out .ensures)
 
 returns : tie.Need-returns
 returns c =
@@ -29,7 +28,7 @@ returns c =
     (sym (empty-sets (s .args .cat) (s .args .cells .now) _ (s .pre) (s .args .listed .now) (c .before .if1 .taken)))
 
 first-spoilt-requires : tie.Need-first-spoilt-requires
-first-spoilt-requires c κs = (c .before .before .before .before .before .before .pre, c .before .before .before .first-cells .ensures, linked-start _ _)
+first-spoilt-requires c κs = (c .before .before .before .before .before .before .pre, c .before .before .before .laid-out .ensures, linked-start _ _)
 
 returns-2 : tie.Need-returns-2
 returns-2 c =
@@ -55,7 +54,7 @@ first-missing-requires c κs =
     let k = c .before .before in
     let s = c .before .before .before .before .before .before .before .before .before .before .before .before in (
       s .pre,
-      c .before .before .before .before .before .before .before .before .before .first-cells .ensures,
+      c .before .before .before .before .before .before .before .before .before .laid-out .ensures,
       judged-sound (s .args .cat) (s .args .cells .now) _ (s .pre) (s .args .listed .now) (all-good k),
       c .before .before .before .before .before .first-spoilt .ensures .linked (clean k),
     )
@@ -82,7 +81,7 @@ pub judge-spec : {M : Type 1} → statement M
 judge-spec =
     tie.close
     (tie.spec
-    first-cells-requires
+    laid-out-requires
     judge-none-requires
     returns
     (λ c. search needs)

@@ -22,17 +22,17 @@ use Rattle.sets.proofs.extend.Statement.{statement}
 use Rattle.sets.proofs.extend.Tie as tie
 
 abbrev Inv-loop : tie.InvT-loop
-Inv-loop cells from cat firsts n merged attrs key tests₀ closed₀ t₀ tests closed t =
+Inv-loop cells from near cat layout n merged attrs key tests₀ closed₀ t₀ tests closed t =
     (tests₀ ≤ tests) × Passed cat cells (setOf cat key) t (tests - tests₀) × Shut cat cells key closed
 
 abbrev μ-loop : tie.MeasureT-loop
-μ-loop cells from cat firsts n merged attrs key tests₀ closed₀ t₀ tests closed t = n - t
+μ-loop cells from near cat layout n merged attrs key tests₀ closed₀ t₀ tests closed t = n - t
 
 abbrev Inv-rounds : tie.InvT-rounds
-Inv-rounds cells from cat firsts n merged₀ attrs₀ key₀ tests₀ closed₀ merged attrs key tests closed = Growing cat cells from key attrs merged tests × Shut cat cells key closed
+Inv-rounds cells from near cat layout n merged₀ attrs₀ key₀ tests₀ closed₀ merged attrs key tests closed = Growing cat cells from key attrs merged tests × Shut cat cells key closed
 
 abbrev μ-rounds : tie.MeasureT-rounds
-μ-rounds cells from cat firsts n merged₀ attrs₀ key₀ tests₀ closed₀ merged attrs key tests closed = n - size (setOf cat key)
+μ-rounds cells from near cat layout n merged₀ attrs₀ key₀ tests₀ closed₀ merged attrs key tests closed = n - size (setOf cat key)
 
 abbrev start : tie.At-loop Inv-loop μ-loop Inv-rounds μ-rounds → tie.Start Inv-loop μ-loop Inv-rounds μ-rounds
 start l = l .before .before .before .before .before
@@ -58,11 +58,11 @@ few w =
 
 -- the table's cells begin there
 place : (w : tie.In-loop Inv-loop μ-loop Inv-rounds μ-rounds)
-    → getD (start (w .before) .args .t3) (w .before .loop .t) 0 ≡ firstCell (start (w .before) .args .t1) (w .before .loop .t)
-place w = start (w .before) .pre .1 .each _ (turn w)
+    → getD (start (w .before) .args .t3 .firsts) (w .before .loop .t) 0 ≡ firstCell (start (w .before) .args .t1) (w .before .loop .t)
+place w = start (w .before) .pre .1 .begins .each _ (turn w)
 
 abbrev asked : tie.After-find-in Inv-loop μ-loop Inv-rounds μ-rounds → tie.In-loop Inv-loop μ-loop Inv-rounds μ-rounds
-asked f = f .before .before .before .before
+asked f = f .before .before .before .before .before
 
 -- the answer is the first of the table's rows that the row test admits
 looked : (f : tie.After-find-in Inv-loop μ-loop Inv-rounds μ-rounds)
@@ -104,8 +104,8 @@ element-copy-out-scheme c = search needs
 mul-base : tie.Need-mul-base Inv-loop μ-loop Inv-rounds μ-rounds
 mul-base c = search needs
 
-array-read-base : tie.Need-array-read-base Inv-loop μ-loop Inv-rounds μ-rounds
-array-read-base c = search needs
+element-copy-out-base : tie.Need-element-copy-out-base Inv-loop μ-loop Inv-rounds μ-rounds
+element-copy-out-base c = search needs
 
 mul-count : tie.Need-mul-count Inv-loop μ-loop Inv-rounds μ-rounds
 mul-count c = search needs
@@ -114,33 +114,34 @@ element-copy-out-count : tie.Need-element-copy-out-count Inv-loop μ-loop Inv-ro
 element-copy-out-count c = search needs
 
 cast-count : tie.Need-cast-count Inv-loop μ-loop Inv-rounds μ-rounds
-cast-count c = let w = c .before .before in omega (arith, start (w .before) .pre .0 .rows _ (turn w))
+cast-count c = let w = c .before .before .before in omega (arith, start (w .before) .pre .0 .rows _ (turn w))
 
 find-in-requires : tie.Need-find-in-requires Inv-loop μ-loop Inv-rounds μ-rounds
 find-in-requires c κs =
-    let w = c .before .before .before in
+    let w = c .before .before .before .before in
     let s = start (w .before) in (
       omega (arith, turn w, s .pre .0 .tables),
       rw (place w) (omega (arith, table-ends (s .args .t1) _ (s .pre .0) _ (turn w), s .pre .0 .room)),
+      λ h. rw (place w) (s .pre .1 .rising _ (turn w) h),
     )
 
 add-row : tie.Need-add-row Inv-loop μ-loop Inv-rounds μ-rounds
-add-row c = let w = c .before .before .before .before .before in omega (arith, few w, c .if1 .taken)
+add-row c = let w = c .before .before .before .before .before .before in omega (arith, few w, c .if1 .taken)
 
 add-tests : tie.Need-add-tests Inv-loop μ-loop Inv-rounds μ-rounds
-add-tests c = let w = c .before .before .before .before .before in omega (arith, few w, c .if1 .taken)
+add-tests c = let w = c .before .before .before .before .before .before in omega (arith, few w, c .if1 .taken)
 
 add-tests-2 : tie.Need-add-tests-2 Inv-loop μ-loop Inv-rounds μ-rounds
-add-tests-2 c = let w = c .before .before .before .before .before in omega (arith, few w)
+add-tests-2 c = let w = c .before .before .before .before .before .before in omega (arith, few w)
 
 close-if-requires : tie.Need-close-if-requires Inv-loop μ-loop Inv-rounds μ-rounds
-close-if-requires c κs = let w = c .before .before .before .before .before in omega (arith, turn w, start (w .before) .pre .0 .tables)
+close-if-requires c κs = let w = c .before .before .before .before .before .before in omega (arith, turn w, start (w .before) .pre .0 .tables)
 
 add-t : tie.Need-add-t Inv-loop μ-loop Inv-rounds μ-rounds
 add-t c = search needs
 
 loop-less : tie.Need-loop-less Inv-loop μ-loop Inv-rounds μ-rounds
-loop-less c = let w = c .before .before .before .before .before .before in omega (arith, turn w)
+loop-less c = let w = c .before .before .before .before .before .before .before in omega (arith, turn w)
 
 loop-again : tie.Need-loop-again Inv-loop μ-loop Inv-rounds μ-rounds
 loop-again c =
@@ -164,15 +165,15 @@ element-copy-out-scheme-2 c = search needs
 mul-merge-add : tie.Need-mul-merge-add Inv-loop μ-loop Inv-rounds μ-rounds
 mul-merge-add c = search needs
 
-array-read-merge-add : tie.Need-array-read-merge-add Inv-loop μ-loop Inv-rounds μ-rounds
-array-read-merge-add c = search needs
+element-copy-out-merge-add : tie.Need-element-copy-out-merge-add Inv-loop μ-loop Inv-rounds μ-rounds
+element-copy-out-merge-add c = search needs
 
 merge-add-requires : tie.Need-merge-add-requires Inv-loop μ-loop Inv-rounds μ-rounds
 merge-add-requires c κs =
-    let f = c .before .before .before in
+    let f = c .before .before .before .before in
     let w = asked f in
     let s = start (w .before) in
-    let b = c .before .before .if1 .taken in (
+    let b = c .before .before .before .if1 .taken in (
       omega arith,
       rw (start-of (s .args .t1) (w .before .loop .t) _ _ (place w)) (row-room _ _ (s .pre .0) _ _ (record { table = turn w; low = omega arith; high = omega (arith, b) })),
       w .before .before .rounds .inv .0 .merged .long,
@@ -180,30 +181,30 @@ merge-add-requires c κs =
 
 with-row-requires : tie.Need-with-row-requires Inv-loop μ-loop Inv-rounds μ-rounds
 with-row-requires c κs =
-    let f = c .before .before .before .before in
+    let f = c .before .before .before .before .before in
     let w = asked f in
     let s = start (w .before) in
-    (omega (arith, turn w, s .pre .0 .tables), row-small _ _ (s .pre .0) _ _ (record { table = turn w; low = omega arith; high = omega (arith, c .before .before .before .if1 .taken) }))
+    (omega (arith, turn w, s .pre .0 .tables), row-small _ _ (s .pre .0) _ _ (record { table = turn w; low = omega arith; high = omega (arith, c .before .before .before .before .if1 .taken) }))
 
 rounds-less : tie.Need-rounds-less Inv-loop μ-loop Inv-rounds μ-rounds
 rounds-less c =
-    let f = c .before .before .before .before .before in
+    let f = c .before .before .before .before .before .before in
     let w = asked f in
     let s = start (w .before) in
     rw (c .with-row .ensures, add-one (f .find-in .result))
-    (growing-less _ (s .args .cells .now) _ (s .pre .0) (s .args .from) (s .pre .2) _ _ _ _ _ _ (w .before .before .rounds .inv .0) (turn w) (looked f) (c .before .before .before .before .if1 .taken))
+    (growing-less _ (s .args .cells .now) _ (s .pre .0) (s .args .from) (s .pre .2) _ _ _ _ _ _ (w .before .before .rounds .inv .0) (turn w) (looked f) (c .before .before .before .before .before .if1 .taken))
 
 rounds-again : tie.Need-rounds-again Inv-loop μ-loop Inv-rounds μ-rounds
 rounds-again c =
-    let f = c .before .before .before .before .before in
+    let f = c .before .before .before .before .before .before in
     let w = asked f in
     let l = w .before in
     let s = start l in
     let o = add-one (f .find-in .result) in
     let z : l .loop .tests + suc (f .find-in .result) ≡ l .before .rounds .tests + ((l .loop .tests - l .before .rounds .tests) + suc (f .find-in .result)) = omega (arith, l .loop .inv .0) in
-    let n = one-more _ (s .args .cells .now) _ (s .pre .0) (s .args .from) (s .pre .2) _ _ _ _ _ _ (l .before .rounds .inv .0) (turn w) (looked f) (c .before .before .before .before .if1 .taken) in
+    let n = one-more _ (s .args .cells .now) _ (s .pre .0) (s .args .from) (s .pre .2) _ _ _ _ _ _ (l .before .rounds .inv .0) (turn w) (looked f) (c .before .before .before .before .before .if1 .taken) in
     rw (c .with-row .ensures, o, z) (
-      growing-hit _ (s .args .cells .now) _ (s .pre .0) (s .args .from) (s .pre .2) _ _ _ _ _ _ (l .before .rounds .inv .0) (turn w) (looked f) (c .before .before .before .before .if1 .taken) _ (l .loop .inv .1) _ _
+      growing-hit _ (s .args .cells .now) _ (s .pre .0) (s .args .from) (s .pre .2) _ _ _ _ _ _ (l .before .rounds .inv .0) (turn w) (looked f) (c .before .before .before .before .before .if1 .taken) _ (l .loop .inv .1) _ _
           (rw (← o, ← start-of (s .args .t1) (l .loop .t) (f .find-in .result + 1) _ (place w)) (c .before .merge-add .ensures)),
       shut-grown (s .args .t1) (s .args .cells .now) _ _ (l .loop .inv .2) _ _ n,
     )
@@ -230,7 +231,7 @@ extend-spec =
     mul-scheme
     element-copy-out-scheme
     mul-base
-    array-read-base
+    element-copy-out-base
     mul-count
     element-copy-out-count
     cast-count
@@ -245,7 +246,7 @@ extend-spec =
     mul-scheme-2
     element-copy-out-scheme-2
     mul-merge-add
-    array-read-merge-add
+    element-copy-out-merge-add
     merge-add-requires
     with-row-requires
     rounds-less

@@ -44,22 +44,27 @@ returns-3 c cat T =
     first-none _ _
     (λ i. test-apart cat (s .args .cells .now) _ (T .lawful) (setOf cat (s .args .key)) _ (in-length bitsPerRow (cat .n) (s .args .key)) (T .table) _ (T .merged .attributes) (rw (T .has-scheme) at (c .if3 .taken)))
 
+bit-of-requires-2 : tie.Need-bit-of-requires-2
+bit-of-requires-2 c κs = search needs
+
 first-fit-requires : tie.Need-first-fit-requires
 first-fit-requires c κs =
-    let s = c .before .before .before .before .before .before in
-    (s .pre .1, shared-under _ _, omega (arith, c .if3 .left))
+    let s = c .before .before .before .before .before .before .before in
+    (s .pre .1, shared-under _ _, omega (arith, c .before .if3 .left), λ h. s .pre .2 (sym (c .bit-of2 .ensures) ∙ h))
 
 returns-4 : tie.Need-returns-4
 returns-4 c cat T =
-    let s = c .before .before .before .before .before .before .before in
-    let z = in-at bitsPerRow (cat .n) (s .args .key) (s .args .t) (T .table) ∙ sym (c .before .before .before .row-of .ensures) ∙ c .before .before .if2 .left in
+    let e = c .before .before in
+    let q = e .before .before in
+    let s = q .before .before .before .before in
+    let z = in-at bitsPerRow (cat .n) (s .args .key) (s .args .t) (T .table) ∙ sym (q .row-of .ensures) ∙ e .before .if2 .left in
     first-same _ _ _ _
     (λ i.
-    test-merged cat (s .args .cells .now) _ (T .lawful) (setOf cat (s .args .key)) _ (in-length bitsPerRow (cat .n) (s .args .key)) (T .table) (s .args .merged .now) _ (T .merged) z (rw (T .has-scheme) at (c .before .if3 .left))
+    test-merged cat (s .args .cells .now) _ (T .lawful) (setOf cat (s .args .key)) _ (in-length bitsPerRow (cat .n) (s .args .key)) (T .table) (s .args .merged .now) _ (T .merged) z (rw (T .has-scheme) at (e .if3 .left))
     ∙ starts cat (s .args .cells .now) (s .args .t) i (s .args .scheme) (s .args .base) (s .args .attrs) (s .args .merged .now) (T .has-scheme) (T .has-base))
     (c .first-fit .ensures)
 
 pub find-in-spec : {M : Type 1} → statement M
 find-in-spec =
     tie.close
-    (tie.spec bit-of-requires returns row-of-requires returns-2 returns-3 first-fit-requires returns-4)
+    (tie.spec bit-of-requires returns row-of-requires returns-2 returns-3 bit-of-requires-2 first-fit-requires returns-4)

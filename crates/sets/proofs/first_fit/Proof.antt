@@ -3,14 +3,14 @@ use borrow.Author.Needs.{needs}
 use native.Mathlib.Omega.{arith}
 use Prim.Native.Nat.{ℕ, _+_, _-_, _*_, _≤_, _<_}
 use mathlib.Core.Path.{_≡_, sym, ap, _∙_}
-use mathlib.Core.Bool.{Bool}
+use mathlib.Core.Bool.{Bool, true}
 use lib.ListN.{length, getD}
 use lib.Count.{ones, ones-le}
 use borrow.Author.Count.{below-more}
 use borrow.Author.Tests.{not-true, not-false}
 use Rattle.laws.proofs.TestLaws.{clash}
 use Rattle.rows.proofs.WorldLaws.{code-inside}
-use Rattle.sets.specs.Merged.{mergedLength, Values, matches, rowIn}
+use Rattle.sets.specs.Merged.{mergedLength, Values, matches, rowIn, Rising}
 use Rattle.sets.proofs.MatchLaws.{under-less, matches-null}
 use Rattle.sets.proofs.RowTestLaws.{first-none, start-inside}
 use Rattle.sets.proofs.PlaceLaws.{Walked, walk-next, walk-end, row-rest}
@@ -18,11 +18,11 @@ use Rattle.sets.proofs.first_fit.Statement.{statement}
 use Rattle.sets.proofs.first_fit.Tie as tie
 
 abbrev Inv-loop : tie.InvT-loop
-Inv-loop cells scheme base count shared merged a wanted w first i₀ rest places i =
+Inv-loop cells scheme base count shared rising near merged a wanted w place first halves i₀ rest places i =
     Walked cells first w count wanted (λ j. matches cells scheme (rowIn base scheme j) shared merged) i
 
 abbrev μ-loop : tie.MeasureT-loop
-μ-loop cells scheme base count shared merged a wanted w first i₀ rest places i = count - i
+μ-loop cells scheme base count shared rising near merged a wanted w place first halves i₀ rest places i = count - i
 
 -- row j has the merged codes
 abbrev fits : tie.Start Inv-loop μ-loop → ℕ → Bool
@@ -51,19 +51,30 @@ room c =
       ),
     )
 
--- the walk comes to the first row that has the first code
-begun : (c : tie.After-next-equal Inv-loop μ-loop)
-    → Walked (c .before .before .before .before .before .before .before .before .args .cells .now)
+-- where the column is halved, it does not fall
+rises : (c : tie.After-rises-at Inv-loop μ-loop) → c .rises-at .result ≡ true
+    → Rising (c .before .before .before .before .before .before .before .before .args .cells .now)
     (c .before .before .before .before .before .before .before .before .args .base + c .before .rank .result) (c .before .before .width .result)
     (c .before .before .before .before .before .before .before .before .args .count)
-    (getD (c .before .before .before .before .before .before .before .before .args .merged .now) (c .before .before .before .before .before .before .lowest .result) 0)
-    (fits (c .before .before .before .before .before .before .before .before)) (c .next-equal .result)
+rises c h =
+    let s = c .before .before .before .before .before .before .before .before in
+    let e = c .rises-at .ensures h in
+    let z : s .args .base + c .before .rank .result ≡ s .args .base = omega (arith, e .1) in
+    rw (z, c .before .before .width .ensures) (s .pre .3 (e .0))
+
+-- the walk comes to the first row that has the first code
+begun : (c : tie.After-next-row Inv-loop μ-loop)
+    → Walked (c .before .before .before .before .before .before .before .before .before .args .cells .now)
+    (c .before .before .before .before .before .before .before .before .before .args .base + c .before .before .rank .result) (c .before .before .before .width .result)
+    (c .before .before .before .before .before .before .before .before .before .args .count)
+    (getD (c .before .before .before .before .before .before .before .before .before .args .merged .now) (c .before .before .before .before .before .before .before .lowest .result) 0)
+    (fits (c .before .before .before .before .before .before .before .before .before)) (c .next-row .result)
 begun c =
-    let k = c .before in
+    let k = c .before .before in
     let l = k .before .before .before .before .before in
     let s = l .before .before in
     walk-next (s .args .cells .now) (s .args .scheme) (s .args .base) _ (s .args .merged .now) _ (l .lowest .ensures) _ _
-    (ap (λ (x : ℕ). s .args .base + x) (k .rank .ensures)) (k .before .width .ensures) _ 0 _ (λ j b. absurd (omega arith)) (c .next-equal .ensures)
+    (ap (λ (x : ℕ). s .args .base + x) (k .rank .ensures)) (k .before .width .ensures) _ 0 _ (λ j b. absurd (omega arith)) (c .next-row .ensures)
 
 lowest-requires : tie.Need-lowest-requires Inv-loop μ-loop
 lowest-requires c κs = c .before .pre .2
@@ -94,14 +105,17 @@ rank-requires c κs = search needs
 add-first : tie.Need-add-first Inv-loop μ-loop
 add-first c = omega (arith, room c)
 
-next-equal-requires : tie.Need-next-equal-requires Inv-loop μ-loop
-next-equal-requires c κs = (omega arith, room c .0, room c .1)
+rises-at-requires : tie.Need-rises-at-requires Inv-loop μ-loop
+rises-at-requires c κs = search needs
+
+next-row-requires : tie.Need-next-row-requires Inv-loop μ-loop
+next-row-requires c κs = let r = room (c .before) in (omega arith, r .0, r .1, rises c)
 
 returns-2 : tie.Need-returns-2 Inv-loop μ-loop
 returns-2 c = walk-end _ _ _ _ _ _ _ (begun (c .before)) (c .if2 .taken)
 
 without-lowest-requires : tie.Need-without-lowest-requires Inv-loop μ-loop
-without-lowest-requires c κs = c .before .before .before .before .before .before .before .before .before .pre .2
+without-lowest-requires c κs = c .before .before .before .before .before .before .before .before .before .before .pre .2
 
 places-of-requires : tie.Need-places-of-requires Inv-loop μ-loop
 places-of-requires c κs = search needs
@@ -114,21 +128,21 @@ abbrev Inside : tie.Start Inv-loop μ-loop → ℕ → ℕ → Type 0
 Inside s i w = (s .args .base + i * w) + ones (s .args .scheme) ≤ length (s .args .cells .now)
 
 inside : (c : tie.In-loop Inv-loop μ-loop)
-    → Inside (c .before .before .before .before .before .before .before .before .before .before .before .before .before) (c .before .loop .i)
-    (c .before .before .before .before .before .before .before .width .result)
+    → Inside (c .before .before .before .before .before .before .before .before .before .before .before .before .before .before) (c .before .loop .i)
+    (c .before .before .before .before .before .before .before .before .width .result)
 inside c =
-    let w = c .before .before .before .before .before .before .before in
+    let w = c .before .before .before .before .before .before .before .before in
     let s = w .before .before .before .before .before .before in
     rw (w .width .ensures) (start-inside (s .args .base) (ones (s .args .scheme)) _ _ _ (c .loop-test .taken) (s .pre .0))
 
 -- and what the comparison says of it is whether it has the merged codes
 answer : (c : tie.After-fits-placed Inv-loop μ-loop)
-    → fits (c .before .before .before .before .before .before .before .before .before .before .before .before .before .before .before) (c .before .before .before .loop .i)
+    → fits (c .before .before .before .before .before .before .before .before .before .before .before .before .before .before .before .before) (c .before .before .before .loop .i)
     ≡ c .fits-placed .result
 answer c =
     let o = c .before .before .before in
     let p = o .before in
-    let k = p .before .before .before .before in
+    let k = p .before .before .before .before .before in
     let l = k .before .before .before .before .before in
     let s = l .before .before in
     row-rest (s .args .cells .now) (s .args .scheme) (s .args .base) _ (s .args .merged .now) _ (l .lowest .ensures) _ _
@@ -144,14 +158,14 @@ add-fits-placed c = omega (arith, inside c)
 fits-placed-requires : tie.Need-fits-placed-requires Inv-loop μ-loop
 fits-placed-requires c κs =
     let p = c .before .before .before in
-    let l = p .before .before .before .before .before .before .before .before .before in
+    let l = p .before .before .before .before .before .before .before .before .before .before in
     let s = l .before .before in (
       λ d b.
           rw (p .places-of .ensures .each d b)
           (code-inside (s .args .scheme) _ _ d (inside (c .before))
           (under-less _ _ (l .lowest .ensures) _ (s .pre .1) d (rw (p .before .without-lowest .ensures _ (l .lowest .ensures)) at b))),
       λ d b.
-          values (p .before .before .before .before .before .before) d
+          values (p .before .before .before .before .before .before .before) d
           (under-less _ _ (l .lowest .ensures) _ (λ x y. y) d (rw (p .before .without-lowest .ensures _ (l .lowest .ensures)) at b)),
     )
 
@@ -160,26 +174,27 @@ returns-3 c =
     let v = c .before .before .before .before .loop .inv in
     record { within = v .within; before = v .before; found = λ b. answer (c .before) ∙ c .if3 .taken }
 
-add-next-equal : tie.Need-add-next-equal Inv-loop μ-loop
-add-next-equal c = omega (arith, c .before .before .before .loop-test .taken)
+add-next-row : tie.Need-add-next-row Inv-loop μ-loop
+add-next-row c = omega (arith, c .before .before .before .loop-test .taken)
 
-next-equal-requires-2 : tie.Need-next-equal-requires-2 Inv-loop μ-loop
-next-equal-requires-2 c κs =
-    let r = room (c .before .before .before .before .before .before .before .before .before) in
-    (omega (arith, c .before .before .before .loop-test .taken), r .0, r .1)
+next-row-requires-2 : tie.Need-next-row-requires-2 Inv-loop μ-loop
+next-row-requires-2 c κs =
+    let k = c .before .before .before .before .before .before .before .before .before in
+    let r = room (k .before) in
+    (omega (arith, c .before .before .before .loop-test .taken), r .0, r .1, rises k)
 
 loop-less : tie.Need-loop-less Inv-loop μ-loop
-loop-less c = omega (arith, c .next-equal2 .ensures .from, c .before .before .before .before .loop-test .taken)
+loop-less c = omega (arith, c .next-row2 .ensures .from, c .before .before .before .before .loop-test .taken)
 
 loop-again : tie.Need-loop-again Inv-loop μ-loop
 loop-again c =
     let o = c .before .before .before .before .before in
-    let k = o .before .before .before .before .before in
+    let k = o .before .before .before .before .before .before in
     let l = k .before .before .before .before .before in
     let s = l .before .before in
     walk-next (s .args .cells .now) (s .args .scheme) (s .args .base) _ (s .args .merged .now) _ (l .lowest .ensures) _ _
     (ap (λ (x : ℕ). s .args .base + x) (k .rank .ensures)) (k .before .width .ensures) _ _ _
-    (below-more _ _ (o .loop .inv .before) (answer (c .before .before) ∙ c .before .if3 .left)) (c .next-equal2 .ensures)
+    (below-more _ _ (o .loop .inv .before) (answer (c .before .before) ∙ c .before .if3 .left)) (c .next-row2 .ensures)
 
 returns-4 : tie.Need-returns-4 Inv-loop μ-loop
 returns-4 c = let o = c .before in walk-end _ _ _ _ _ _ _ (o .loop .inv) (omega (arith, o .loop .inv .within, c .loop-test .left))
@@ -198,7 +213,8 @@ first-fit-spec =
     width-requires
     rank-requires
     add-first
-    next-equal-requires
+    rises-at-requires
+    next-row-requires
     returns-2
     without-lowest-requires
     places-of-requires
@@ -207,8 +223,8 @@ first-fit-spec =
     add-fits-placed
     fits-placed-requires
     returns-3
-    add-next-equal
-    next-equal-requires-2
+    add-next-row
+    next-row-requires-2
     loop-less
     loop-again
     returns-4)

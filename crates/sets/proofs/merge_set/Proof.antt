@@ -15,10 +15,10 @@ use Rattle.sets.proofs.merge_set.Statement.{statement}
 use Rattle.sets.proofs.merge_set.Tie as tie
 
 abbrev Inv-loop : tie.InvT-loop
-Inv-loop cells key merged₀ cat firsts n attrs₀ u₀ merged attrs u = (u ≤ n) × Merged cat cells (upTo (setOf cat key) u) merged attrs
+Inv-loop cells key merged₀ cat layout n attrs₀ u₀ merged attrs u = (u ≤ n) × Merged cat cells (upTo (setOf cat key) u) merged attrs
 
 abbrev μ-loop : tie.MeasureT-loop
-μ-loop cells key merged₀ cat firsts n attrs₀ u₀ merged attrs u = n - u
+μ-loop cells key merged₀ cat layout n attrs₀ u₀ merged attrs u = n - u
 
 loop-holds : tie.Need-loop-holds Inv-loop μ-loop
 loop-holds c = (omega arith, merged-none _ _ _ _ (c .before .pre .3) (λ u. up-out _ 0 u (omega arith)))
@@ -35,17 +35,17 @@ element-copy-out-merge-add c = search needs
 mul-merge-add-2 : tie.Need-mul-merge-add-2 Inv-loop μ-loop
 mul-merge-add-2 c = search needs
 
-array-read-merge-add : tie.Need-array-read-merge-add Inv-loop μ-loop
-array-read-merge-add c = search needs
+element-copy-out-merge-add-2 : tie.Need-element-copy-out-merge-add-2 Inv-loop μ-loop
+element-copy-out-merge-add-2 c = search needs
 
 merge-add-requires : tie.Need-merge-add-requires Inv-loop μ-loop
 merge-add-requires c κs =
-    let i = c .before .before in
+    let i = c .before .before .before in
     let l = i .before .before .before in
     let s = l .before .before in
     let b = i .before .before .loop-test .taken in (
       omega (arith, i .if1 .taken),
-      rw (start-of (s .args .t1) (l .loop .u) _ _ (s .pre .1 .each _ b))
+      rw (start-of (s .args .t1) (l .loop .u) _ _ (s .pre .1 .begins .each _ b))
           (row-room _ _ (s .pre .0) _ _ (record { table = b; low = omega (arith, i .if1 .taken); high = rw (i .before .row-of .ensures) (s .pre .2 .rows _ b) })),
       l .loop .inv .1 .long,
     )
@@ -65,9 +65,9 @@ loop-again c =
       omega (arith, b),
       ⊎-elim
           (λ w.
-          rw (w .4, w .5)
+          rw (w .5, w .6)
           (merged-add _ _ _ (s .pre .0) _ _ _ _ b (up-row _ _ _ (omega (arith, w .0 .taken)) own) _ _ _ _ (l .loop .inv .1)
-          (rw (← start-of (s .args .t1) (l .loop .u) _ _ (s .pre .1 .each _ b)) (w .3 .ensures))))
+          (rw (← start-of (s .args .t1) (l .loop .u) _ _ (s .pre .1 .begins .each _ b)) (w .4 .ensures))))
           (λ w. rw (w .1, w .2) (merged-same _ _ _ _ _ _ (λ v. up-skip _ _ v (own ∙ w .0 .left)) (l .loop .inv .1)))
           (c .if1 .came),
     )
@@ -89,7 +89,7 @@ merge-set-spec =
     mul-merge-add
     element-copy-out-merge-add
     mul-merge-add-2
-    array-read-merge-add
+    element-copy-out-merge-add-2
     merge-add-requires
     add-u
     loop-less

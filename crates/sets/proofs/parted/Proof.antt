@@ -1,20 +1,16 @@
--- `sets::parted` meets its contract, by one law for each way (`parts-own`, `parts-none`, `parts-apart`, `parts-first`). Assumes nothing.
+-- `sets::parted` meets its contract, by one law for each way (`parts-own`, `parts-none`, `parts-apart`, `parts-answer`). Assumes nothing.
 use native.Mathlib.Omega.{arith}
 use Prim.Native.Nat.{_+_, _-_, _*_, _≤_}
 use mathlib.Core.Path.{_≡_, refl, sym, ap, _∙_}
 use lib.ListN.{length}
 use borrow.Author.Needs.{needs}
-use borrow.Author.Tests.{eq-eqb, ne-eqb}
-use mathlib.Core.Bool.{Bool, not}
+use mathlib.Core.Bool.{not}
 use lib.Count.{ones}
-use lib.Dec.{eqb}
 use Rattle.keys.specs.Keys.{bitsPerRow}
 use Rattle.keys.proofs.SetLaws.{in-at}
-use Rattle.tables.specs.declared.Catalogue.{Catalogue}
-use Rattle.rows.specs.World.{worldOf, setOf, placeOf}
-use Rattle.sets.specs.Promises.{parts, ForDrop}
+use Rattle.rows.specs.World.{worldOf, setOf}
 use Rattle.sets.proofs.MergedLaws.{shared-under}
-use Rattle.sets.proofs.Dropping.{parts-own, parts-none, parts-apart, parts-first}
+use Rattle.sets.proofs.Dropping.{parts-own, parts-none, parts-apart, parts-answer}
 use Rattle.sets.proofs.parted.Statement.{statement}
 use Rattle.sets.proofs.parted.Tie as tie
 
@@ -26,23 +22,6 @@ room c =
     let q = c .before .before .before in
     rw (c .width .ensures, q .row-of .ensures)
     (q .before .before .before .before .pre .1 (omega (arith, c .before .before .if2 .left, q .row-of .ensures)))
-
--- what the comparison answers
-abbrev start : tie.After-first-fit → tie.Start
-start c = c .before .before .before .before .before .before .before .before
-
-abbrev Asked : tie.Start → Catalogue → Type 0
-Asked s cat =
-    ForDrop cat (s .args .cells .now) (s .args .key) (placeOf (s .args .x)) (s .args .u) (s .args .scheme) (s .args .base) (s .args .attrs) (s .args .merged .now)
-
-abbrev gone : tie.Start → Catalogue → Bool
-gone s cat = parts (worldOf cat (s .args .cells .now)) (setOf cat (s .args .key)) (placeOf (s .args .x)) (s .args .u)
-
-answer : (c : tie.After-first-fit) (cat : Catalogue) → Asked (start c) cat → gone (start c) cat ≡ not (eqb (c .first-fit .result) 0)
-answer c cat d =
-    let w = c .before in
-    let q = w .before .before .before in
-    parts-first cat _ _ _ _ _ _ _ _ d _ _ (q .before .if1 .left) (q .row-of .ensures) (w .before .before .if2 .left) (w .width .ensures) _ (c .first-fit .ensures)
 
 returns : tie.Need-returns
 returns c cat d =
@@ -75,14 +54,15 @@ mul-start c = omega (arith, room c)
 add-start : tie.Need-add-start
 add-start c = omega (arith, room c)
 
-first-fit-requires : tie.Need-first-fit-requires
-first-fit-requires c κs = (omega (arith, room c), shared-under _ _, omega (arith, c .before .if3 .left))
+row-fits-requires : tie.Need-row-fits-requires
+row-fits-requires c κs = (room c, shared-under _ _)
 
 returns-4 : tie.Need-returns-4
-returns-4 c cat d = sym (answer (c .before) cat d ∙ ap not (eq-eqb _ 0 (c .if4 .taken)))
-
-returns-5 : tie.Need-returns-5
-returns-5 c cat d = sym (answer (c .before) cat d ∙ ap not (ne-eqb _ 0 (c .if4 .left)))
+returns-4 c cat d =
+    let w = c .before in
+    let q = w .before .before .before in
+    ap not (c .row-fits .ensures)
+    ∙ sym (parts-answer cat _ _ _ _ _ _ _ _ d _ _ (q .before .if1 .left) (q .row-of .ensures) (w .before .before .if2 .left) (w .width .ensures))
 
 pub parted-spec : {M : Type 1} → statement M
 parted-spec =
@@ -96,6 +76,5 @@ parted-spec =
     width-requires
     mul-start
     add-start
-    first-fit-requires
-    returns-4
-    returns-5)
+    row-fits-requires
+    returns-4)

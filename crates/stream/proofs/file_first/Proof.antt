@@ -15,13 +15,13 @@ with-row-requires c κs =
     let p = c .before .before .before .before .before .pre in
     (omega (arith, p .1 .table, p .0 .tables), row-small _ _ (p .0) _ _ (p .1))
 
-first-cells-requires : tie.Need-first-cells-requires
-first-cells-requires c κs = search needs
+laid-out-requires : tie.Need-laid-out-requires
+laid-out-requires c κs = search needs
 
 extend-requires : tie.Need-extend-requires
 extend-requires c κs =
     let p = c .before .before .before .before .before .before .before .pre in
-    (p .0, c .first-cells .ensures, rw (c .before .with-row .ensures) (alone-named _ _ _ (p .1) (row-small _ _ (p .0) _ _ (p .1))))
+    (p .0, c .laid-out .ensures, rw (c .before .with-row .ensures) (alone-named _ _ _ (p .1) (row-small _ _ (p .0) _ _ (p .1))))
 
 file-record-requires : tie.Need-file-record-requires
 file-record-requires c κs = search needs
@@ -54,7 +54,7 @@ file-first-spec =
     (tie.spec
     total-rows-requires
     with-row-requires
-    first-cells-requires
+    laid-out-requires
     extend-requires
     file-record-requires
     same-length

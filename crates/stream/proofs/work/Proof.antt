@@ -18,7 +18,7 @@ use Rattle.stream.proofs.work.Statement.{statement}
 use Rattle.stream.proofs.work.Tie as tie
 
 abbrev Inv-loop : tie.InvT-loop
-Inv-loop cat cells keys₀ left₀ right₀ scope budget padded firsts total taken found₀ next-row₀ spare₀ trials₀ tests₀ looks₀ keys left right found next-row spare trials tests looks =
+Inv-loop cat cells keys₀ left₀ right₀ scope budget padded layout total taken found₀ next-row₀ spare₀ trials₀ tests₀ looks₀ keys left right found next-row spare trials tests looks =
     Fit cat (stateFor (askedOf scope) keys left right found taken next-row)
     × (work cat cells budget (stateFor (askedOf scope) keys₀ left₀ right₀ found₀ taken next-row₀) padded ≡ piled trials tests looks (work cat cells spare (stateFor (askedOf scope) keys left right found taken next-row) padded))
     × (length keys ≡ length keys₀)
@@ -26,7 +26,7 @@ Inv-loop cat cells keys₀ left₀ right₀ scope budget padded firsts total tak
     × (length right ≡ length right₀)
 
 abbrev μ-loop : tie.MeasureT-loop
-μ-loop cat cells keys₀ left₀ right₀ scope budget padded firsts total taken found₀ next-row₀ spare₀ trials₀ tests₀ looks₀ keys left right found next-row spare trials tests looks = total - next-row
+μ-loop cat cells keys₀ left₀ right₀ scope budget padded layout total taken found₀ next-row₀ spare₀ trials₀ tests₀ looks₀ keys left right found next-row spare trials tests looks = total - next-row
 
 -- Where a trial was done: the whole call is these counts, and what is left of it.
 goes : (c : tie.After-known-told Inv-loop μ-loop)
@@ -62,8 +62,8 @@ small c =
     let p = c .before .before .before .before .before .before .before .before .before .before .before .before .before .before .before .before .before .before .before .before .before .before .before .pre in
     counts-small (a .cat) (a .cells .now) (a .padded .now) (p .0) (a .budget) _ (p .1) _ _ _ _ (goes c .1)
 
-first-cells-requires : tie.Need-first-cells-requires Inv-loop μ-loop
-first-cells-requires c κs = lawful-all _ _ (c .before .before .before .before .before .pre .0)
+laid-out-requires : tie.Need-laid-out-requires Inv-loop μ-loop
+laid-out-requires c κs = c .before .before .before .before .before .pre .0
 
 total-rows-requires : tie.Need-total-rows-requires Inv-loop μ-loop
 total-rows-requires c κs = lawful-all _ _ (c .before .before .before .before .before .before .pre .0)
@@ -94,7 +94,7 @@ returns c =
 trial-requires : tie.Need-trial-requires Inv-loop μ-loop
 trial-requires c κs =
     let l = c .before .before .before .before .before .loop in
-    (c .before .before .before .before .before .before .before .before .before .before .before .before .before .pre .0, c .before .before .before .before .before .before .before .first-cells .ensures, l .inv .0, omega (arith, c .before .before .before .before .before .before .total-rows .ensures, c .before .before .before .before .loop-test .taken))
+    (c .before .before .before .before .before .before .before .before .before .before .before .before .before .pre .0, c .before .before .before .before .before .before .before .laid-out .ensures, l .inv .0, omega (arith, c .before .before .before .before .before .before .total-rows .ensures, c .before .before .before .before .loop-test .taken))
 
 enum-known-f : tie.Need-enum-known-f Inv-loop μ-loop
 enum-known-f c = search needs
@@ -206,7 +206,7 @@ work-spec =
     (tie.spec
     Inv-loop
     μ-loop
-    first-cells-requires
+    laid-out-requires
     total-rows-requires
     loop-holds
     told-requires
