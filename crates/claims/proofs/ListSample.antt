@@ -8,6 +8,7 @@ use Rattle.laws.specs.Tests.{any, all, isYes, lowestBelow}
 use Rattle.laws.specs.Lists.{tab}
 use Rattle.words.specs.Words.{bitOf}
 use Rattle.keys.specs.Keys.{rowOf, keyOf, rowsIn}
+use Rattle.tables.specs.Sample.{three, threeCells}
 use Rattle.tables.specs.Catalogues.{firstCell, rowStart, rowsBefore}
 use Rattle.tables.specs.Checks.{sizeFault, badScheme, countFault, tableFault, tablesFault, catalogueFault}
 use Rattle.disjunction.specs.Rule.{rowsTo, rowsBelow, member, absent, near, agrees, rowTest, walk, grow, extension, stays, dropped, alone, joins, membersBelow, piece, start, trial}
@@ -20,7 +21,6 @@ use Rattle.hub.specs.declared.ListVerdict.{ListVerdict}
 use Rattle.hub.specs.declared.ListVerdict.the-variants.{Right, Entry, Missing}
 use Rattle.hub.specs.Verdicts.{listed, seek, spoilt, tried, triedOn, reached, verdict}
 use Rattle.hub.specs.Promises.{wordSet, checked}
-use Rattle.machine.proofs.Sample.{three, threeCells}
 
 -- The check of these keys.
 abbrev asks : List ℕ → ListVerdict
