@@ -2,28 +2,7 @@
  * Lists the row sets of the image on standard input, a few trials a call.
  * It prints the lines of the listing program: a small budget changes no answer and no total.
  */
-#include "harbour.h"
-
-#include <inttypes.h>
-#include <stdbool.h>
-#include <stdio.h>
-
-#define MOST_BYTES 65536
-#define MOST_CELLS 8192
-#define RECORDS 4096
-#define BUDGET 3
-
-/* What load gives: the catalogue's words, and the cells. */
-static uint64_t catalogue[18];
-static uint64_t cells[MOST_CELLS];
-
-/* What a stream works in, from open to its end: the store, the record, a padded row and a result. */
-static uint64_t keys[RECORDS];
-static uint16_t left[RECORDS];
-static uint16_t right[RECORDS];
-static uint64_t record[3];
-static uint64_t padded[63];
-static uint64_t result[4];
+#include "lines.h"
 
 /* Opens the stream: its row tests * 32 + refusal. */
 static uint64_t open_stream(void)
@@ -39,69 +18,12 @@ static uint64_t next_set(uint64_t budget)
                         right, RECORDS, record, 3, budget, padded, 63, result, 4);
 }
 
-/* The line of a set: the row number of each table, a bar, and the values; a code is a value plus 1, and 0 for none. */
-static void print_set(void)
-{
-    fputs("set", stdout);
-    for (uint64_t table = 0; table < catalogue[1]; table++)
-        printf(" %" PRIu64, result[0] >> (8 * table) & 255);
-    fputs(" |", stdout);
-    for (uint64_t a = 0; a < catalogue[0]; a++) {
-        if (padded[a] == 0)
-            fputs(" -", stdout);
-        else
-            printf(" %" PRIu64, padded[a] - 1);
-    }
-    putchar('\n');
-}
-
-/* Drains the stream and prints it, with the totals of all calls behind it. */
-static void drain(void)
-{
-    uint64_t trials = 0, tests = 0, looks = 0;
-    while (true) {
-        uint64_t answer = next_set(BUDGET);
-        trials += result[1];
-        tests += result[2];
-        looks += result[3];
-        if (answer == 32)
-            print_set();
-        if (answer == 64)
-            printf("end %" PRIu64 " %" PRIu64 " %" PRIu64 " %" PRIu64 "\n", record[1], trials, tests, looks);
-        if (answer < 32)
-            printf("refused %" PRIu64 " %" PRIu64 "\n", answer, record[1]);
-        if (answer == 64 || answer < 32)
-            return;
-    }
-}
-
-/* The first line: attributes, tables, rows of all tables, and open's row tests. */
-static void print_tables(uint64_t tests)
-{
-    uint64_t rows = 0;
-    for (uint64_t table = 0; table < catalogue[1]; table++)
-        rows += catalogue[10 + table];
-    printf("tables %" PRIu64 " %" PRIu64 " %" PRIu64 " %" PRIu64 "\n", catalogue[0], catalogue[1], rows, tests);
-}
-
 int main(void)
 {
-    static uint8_t image[MOST_BYTES + 1];
-    size_t length = fread(image, 1, sizeof image, stdin);
-    if (ferror(stdin)) {
-        fputs("standard input cannot be read\n", stderr);
-        return 2;
-    }
-    if (length > MOST_BYTES) {
-        puts("input too long");
-        return 0;
-    }
-    uint64_t loaded = harbour_load(image, length, cells, MOST_CELLS, catalogue, 18);
-    if (loaded != 0) {
-        printf("refused %" PRIu64 " %" PRIu64 "\n", loaded % 32, loaded / 32);
-        return 0;
-    }
+    int status;
+    if (!loads(&status))
+        return status;
     print_tables(open_stream() / 32);
-    drain();
+    drain(next_set);
     return 0;
 }

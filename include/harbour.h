@@ -1,5 +1,5 @@
 /*
- * Harbour table images: the C door, and the calls on images and streams.
+ * Harbour table images: the C door, and the calls on images, streams and lists.
  *
  * An image holds up to eight tables in one run of bytes. The door tells whether
  * an image is good, and if not, why and where.
@@ -56,7 +56,8 @@ uint64_t harbour_check(const uint8_t *image, size_t length);
  *
  * A catalogue is 18 words: the number of attributes, the number of tables, eight
  * schemes, eight row counts. A stream record is 3 words: records found, records
- * handed out, next row. A result is 4 words: key, trials, row tests, looks. Words
+ * handed out, next row; that of a stream of one row is 5: the same, then the row's
+ * table and its number. A result is 4 words: key, trials, row tests, looks. Words
  * behind these stay. Where fewer are lent, the answer is 31 and nothing changes.
  *
  * The store is three arrays, keys, left and right; it has as many records as the
@@ -70,6 +71,7 @@ uint64_t harbour_check(const uint8_t *image, size_t length);
  *   12  the store is full
  *   13  the stream record does not fit the tables and the store
  *   14  the store is damaged
+ *   19  there is no such table or row
  */
 
 /*
@@ -122,12 +124,66 @@ uint64_t harbour_next(const uint64_t *catalogue, size_t catalogue_length,
                       uint64_t *result, size_t result_length);
 
 /*
+ * Opens a stream of the row sets that hold one row: tables are numbered from 0, the
+ * rows of a table from 1. The answer is row tests * 32 + refusal: 4, 5, 6 or 8 for the
+ * tables, then 19, then 12. The record is 5 words. Refused, it gives a record of zeros
+ * and leaves the store as it was.
+ */
+uint64_t harbour_open_holding(const uint64_t *catalogue, size_t catalogue_length,
+                              const uint64_t *cells, size_t cells_length,
+                              uint64_t *keys, size_t keys_length,
+                              uint16_t *left, size_t left_length,
+                              uint16_t *right, size_t right_length,
+                              uint64_t table, uint64_t row,
+                              uint64_t *record, size_t record_length);
+
+/*
+ * Asks such a stream for its next set, as harbour_next does: each set that holds the
+ * row comes once, and no other. A trial that leads to a set without the row makes no
+ * look. The record is moved on, and goes on naming its row.
+ *
+ * Before any trial it is refused with 4, 5, 6 or 8 for the tables, then 13, which is
+ * met too where the record names no such row, then 11; only the result is then
+ * changed, to zeros. 12 and 14 are met at work: the trials done before stand and are
+ * counted, and the one that failed leaves no mark.
+ */
+uint64_t harbour_next_holding(const uint64_t *catalogue, size_t catalogue_length,
+                              const uint64_t *cells, size_t cells_length,
+                              uint64_t *keys, size_t keys_length,
+                              uint16_t *left, size_t left_length,
+                              uint16_t *right, size_t right_length,
+                              uint64_t *record, size_t record_length,
+                              uint64_t budget,
+                              uint64_t *padded, size_t padded_length,
+                              uint64_t *result, size_t result_length);
+
+/*
  * Tells whether the first padded row covers the second: 1 for yes, 0 for no. It
  * does when they have the same length and the first has, at each attribute where
  * the second has a value, that same value. A code of 0 is no value.
  */
 uint64_t harbour_covers(const uint64_t *first, size_t first_length,
                         const uint64_t *second, size_t second_length);
+
+/*
+ * Checks a list of keys, as another program joined the same tables: whether it
+ * holds every maximal row set once and nothing else, in any order. Any words may be
+ * listed, and the list may have any length. The answer is
+ *
+ *   32   right
+ *   64   the entry whose place, from 0, is in the result is not a maximal set, or
+ *        repeats an earlier one; it is the first such entry
+ *   96   every entry is good, and the set whose key is in the result is missing: the
+ *        first that trials of all rows on the listed sets reach, in the list's order
+ *        (for an empty list, what the first row extends to)
+ *
+ * or one of the refusals 4, 5, 6 and 8. The result is 1 word; with 32 and a refusal
+ * it is 0. No memory is asked for; the call takes about 270 kB of stack.
+ */
+uint64_t harbour_check_list(const uint64_t *catalogue, size_t catalogue_length,
+                            const uint64_t *cells, size_t cells_length,
+                            const uint64_t *listed, size_t listed_length,
+                            uint64_t *result, size_t result_length);
 
 #ifdef __cplusplus
 }

@@ -3,14 +3,15 @@ use crate::lent::Lent;
 use crate::library;
 use crate::make::Tables;
 use crate::random::Random;
-use crate::rule::{self, Answer, Outcome, Record, Store, Stop};
+use crate::rule::{self, Answer, Asked, Outcome, Record, Store, Stop};
 use crate::tally::Tally;
-use crate::words::{self, Call, CATALOGUE, RECORD, RESULT};
+use crate::words::{self, Call, CATALOGUE, HOLDING, RECORD, RESULT};
 
-/// The slices lent to open and to a stream call.
-/// Each stands between guard words.
+/// The slices lent to open and to a stream call, and what open is asked for.
+/// Each slice stands between guard words.
 #[derive(Clone, PartialEq, Eq)]
 pub struct Lending {
+    pub asked: Asked,
     pub catalogue: Lent<u64>,
     pub cells: Lent<u64>,
     pub keys: Lent<u64>,
@@ -24,15 +25,16 @@ pub struct Lending {
 impl Lending {
     /// What a caller lends for these tables and a store of so many records.
     /// All but the tables starts as a random pattern; here and there a slice is longer than needed.
-    pub fn of(random: &mut Random, tables: &Tables, records: usize) -> Lending {
+    pub fn of(random: &mut Random, tables: &Tables, asked: Asked, records: usize) -> Lending {
         let mut more = |needed: usize| needed + [0, 0, 0, 1, 3][random.range(0, 4)];
         let (keys, left, right) = (more(records), more(records), more(records));
-        let (record, padded, result) = (more(RECORD), more(tables.catalogue.m as usize), more(RESULT));
+        let (record, padded, result) = (more(record_words(asked)), more(tables.catalogue.m as usize), more(RESULT));
         let mut words = words::words_of(&tables.catalogue).to_vec();
         words.resize(more(CATALOGUE), 7);
         let mut cells = tables.cells.clone();
         cells.resize(more(cells.len()), 7);
         Lending {
+            asked,
             catalogue: Lent::holding(&words, random),
             cells: Lent::holding(&cells, random),
             keys: Lent::pattern(keys, random),
@@ -54,7 +56,13 @@ impl Lending {
     /// For choosing damage and for counting.
     pub fn stream_record(&self) -> Option<Record> {
         let words = self.record.slice();
-        (words.len() >= RECORD).then(|| Record { found: words[0], taken: words[1], next_row: words[2] })
+        (words.len() >= self.record_words()).then(|| Record { found: words[0], taken: words[1], next_row: words[2] })
+    }
+
+    /// The words of the stream record.
+    /// They are more where it names a row.
+    pub fn record_words(&self) -> usize {
+        record_words(self.asked)
     }
 
     /// N as the catalogue has it.
@@ -94,6 +102,16 @@ impl Lending {
     }
 }
 
+/// The words of a record, by what its stream is asked for.
+/// Calls lend as many or more, and fewer to be refused.
+fn record_words(asked: Asked) -> usize {
+    if asked == Asked::EverySet {
+        RECORD
+    } else {
+        HOLDING
+    }
+}
+
 /// The same lending on both sides.
 /// Damage is done to both alike, by `change`.
 pub struct Pair {
@@ -101,9 +119,10 @@ pub struct Pair {
     theirs: Lending,
 }
 
-/// Names of the six reasons for 13, in the rules' order.
+/// Names of the six reasons for 13, in the rules' order, and of the one that is left in a record that names a row.
 /// They are rows of the printed table.
 pub const MISFITS: [&str; 6] = ["13 found passes store", "13 taken passes found", "13 row passes N", "13 taken is 0", "13 found is 0", "13 N is 0"];
+pub const NO_SUCH_ROW: &str = "13 no such row";
 
 impl Pair {
     /// Lends the same to both sides.
@@ -141,12 +160,16 @@ impl Pair {
         let before = self.ours.clone();
         let lent = &mut self.ours;
         let mut store = Store { keys: lent.keys.slice_mut(), left: lent.left.slice_mut(), right: lent.right.slice_mut() };
-        let ours = words::open(lent.catalogue.slice(), lent.cells.slice(), &mut store, lent.record.slice_mut());
+        let ours = words::open(lent.asked, lent.catalogue.slice(), lent.cells.slice(), &mut store, lent.record.slice_mut());
         let lent = &mut self.theirs;
         let mut store = Store { keys: lent.keys.slice_mut(), left: lent.left.slice_mut(), right: lent.right.slice_mut() };
-        let theirs = library::open(lent.catalogue.slice(), lent.cells.slice(), &mut store, lent.record.slice_mut());
-        tally.meet("open", if ours == 0 { "0 without rows".to_string() } else { (ours % 32).to_string() });
-        self.same("open", ours, theirs, &before)?;
+        let (catalogue, cells, record) = (lent.catalogue.slice(), lent.cells.slice(), lent.record.slice_mut());
+        let (call, theirs) = match lent.asked {
+            Asked::EverySet => ("open", library::open(catalogue, cells, &mut store, record)),
+            Asked::Holding { table, row } => ("open_holding", library::open_holding(catalogue, cells, &mut store, table, row, record)),
+        };
+        tally.meet(call, opened_name(ours, &before));
+        self.same(call, ours, theirs, &before)?;
         Ok(ours)
     }
 
@@ -157,22 +180,43 @@ impl Pair {
         let lent = &mut self.ours;
         let mut store = Store { keys: lent.keys.slice_mut(), left: lent.left.slice_mut(), right: lent.right.slice_mut() };
         let call = Call { record: lent.record.slice_mut(), budget, padded: lent.padded.slice_mut(), result: lent.result.slice_mut() };
-        let (ours, outcome) = words::next(lent.catalogue.slice(), lent.cells.slice(), &mut store, call);
+        let (ours, outcome) = words::next(record_words(lent.asked), lent.catalogue.slice(), lent.cells.slice(), &mut store, call);
         let lent = &mut self.theirs;
         let mut store = Store { keys: lent.keys.slice_mut(), left: lent.left.slice_mut(), right: lent.right.slice_mut() };
         let call = Call { record: lent.record.slice_mut(), budget, padded: lent.padded.slice_mut(), result: lent.result.slice_mut() };
-        let theirs = library::next(lent.catalogue.slice(), lent.cells.slice(), &mut store, call);
-        let trials = self.ours.result.slice().get(1).copied().unwrap_or(0);
-        tally.meet("next", name_of(outcome, &before, trials));
-        self.same(&format!("next with budget {budget}"), ours, theirs, &before)?;
+        let (name, theirs) = match lent.asked {
+            Asked::EverySet => ("next", library::next(lent.catalogue.slice(), lent.cells.slice(), &mut store, call)),
+            Asked::Holding { .. } => ("next_holding", library::next_holding(lent.catalogue.slice(), lent.cells.slice(), &mut store, call)),
+        };
+        let count = |place: usize| self.ours.result.slice().get(place).copied().unwrap_or(0);
+        tally.meet(name, name_of(outcome, &before, count(1), count(3)));
+        self.same(&format!("{name} with budget {budget}"), ours, theirs, &before)?;
         Ok(ours)
     }
 }
 
+/// The name of open's answer in the printed table.
+/// 19 is told apart by what is not there, and by whether 12 would be met too.
+fn opened_name(answer: u64, before: &Lending) -> String {
+    match before.asked {
+        Asked::EverySet if answer == 0 => "0 without rows".to_string(),
+        Asked::Holding { .. } if answer == 19 && before.records() == 0 && before.total() > 0 => "19 before 12".to_string(),
+        Asked::Holding { table, .. } if answer == 19 && table >= before.catalogue.slice()[1] => "19 no table".to_string(),
+        Asked::Holding { row: 0, .. } if answer == 19 => "19 row 0".to_string(),
+        Asked::Holding { .. } if answer == 19 => "19 row passes count".to_string(),
+        _ => (answer % 32).to_string(),
+    }
+}
+
 /// The name of an outcome in the printed table.
-/// 12 and 14 are told apart by whether trials had been done before; 13 by its reason.
-fn name_of(outcome: Option<Outcome>, before: &Lending, trials: u64) -> String {
-    let at_work = |name: &str| format!("{name}{}", if trials > 0 { " after trials" } else { "" });
+/// 12 and 14 are told apart by whether trials had been done before, and whether one of them made a look; 13 by its reason.
+fn name_of(outcome: Option<Outcome>, before: &Lending, trials: u64, looks: u64) -> String {
+    let work = match (trials, looks) {
+        (0, _) => "",
+        (_, 0) => " after trials without a look",
+        _ => " after trials",
+    };
+    let at_work = |name: &str| format!("{name}{work}");
     match outcome {
         None => "31".to_string(),
         Some(Outcome::Answered(Answer::Set(_))) => at_work("set"),
@@ -185,7 +229,7 @@ fn name_of(outcome: Option<Outcome>, before: &Lending, trials: u64) -> String {
         Some(Outcome::Stopped(Stop::TooDeep)) => at_work("14 looks"),
         Some(Outcome::Refused(refusal)) if refusal.number() == 13 => {
             let reason = before.stream_record().and_then(|record| rule::misfit(&record, before.records(), before.total()));
-            MISFITS[reason.expect("13 has a reason")].to_string()
+            reason.map_or(NO_SUCH_ROW, |reason| MISFITS[reason]).to_string()
         }
         Some(Outcome::Refused(refusal)) => refusal.number().to_string(),
     }

@@ -22,6 +22,8 @@ pub mod lent;
 #[allow(unsafe_code)]
 pub mod library;
 pub mod listing;
+#[cfg(feature = "stream")]
+pub mod lists;
 pub mod make;
 pub mod numbers;
 pub mod random;

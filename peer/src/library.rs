@@ -30,7 +30,25 @@ extern "C" {
         record: *mut u64, record_length: usize, budget: u64,
         padded: *mut u64, padded_length: usize, result: *mut u64, result_length: usize,
     ) -> u64;
+    #[allow(clippy::too_many_arguments)]
+    fn harbour_open_holding(
+        catalogue: *const u64, catalogue_length: usize, cells: *const u64, cells_length: usize,
+        keys: *mut u64, keys_length: usize, left: *mut u16, left_length: usize, right: *mut u16, right_length: usize,
+        table: u64, row: u64, record: *mut u64, record_length: usize,
+    ) -> u64;
+    #[allow(clippy::too_many_arguments)]
+    fn harbour_next_holding(
+        catalogue: *const u64, catalogue_length: usize, cells: *const u64, cells_length: usize,
+        keys: *mut u64, keys_length: usize, left: *mut u16, left_length: usize, right: *mut u16, right_length: usize,
+        record: *mut u64, record_length: usize, budget: u64,
+        padded: *mut u64, padded_length: usize, result: *mut u64, result_length: usize,
+    ) -> u64;
     fn harbour_covers(first: *const u64, first_length: usize, second: *const u64, second_length: usize) -> u64;
+    #[allow(clippy::too_many_arguments)]
+    fn harbour_check_list(
+        catalogue: *const u64, catalogue_length: usize, cells: *const u64, cells_length: usize,
+        listed: *const u64, listed_length: usize, result: *mut u64, result_length: usize,
+    ) -> u64;
 }
 
 /// Is it the library that is called, or the peer under its names?
@@ -82,6 +100,33 @@ pub fn next(catalogue: &[u64], cells: &[u64], store: &mut Store, call: Call) -> 
     }
 }
 
+/// The library's open of the sets that hold one row.
+/// See `words::open`.
+#[cfg(feature = "stream")]
+pub fn open_holding(catalogue: &[u64], cells: &[u64], store: &mut Store, table: u64, row: u64, record: &mut [u64]) -> u64 {
+    unsafe {
+        harbour_open_holding(
+            catalogue.as_ptr(), catalogue.len(), cells.as_ptr(), cells.len(),
+            store.keys.as_mut_ptr(), store.keys.len(), store.left.as_mut_ptr(), store.left.len(), store.right.as_mut_ptr(), store.right.len(),
+            table, row, record.as_mut_ptr(), record.len(),
+        )
+    }
+}
+
+/// The library's call of that stream.
+/// See `words::next`.
+#[cfg(feature = "stream")]
+pub fn next_holding(catalogue: &[u64], cells: &[u64], store: &mut Store, call: Call) -> u64 {
+    unsafe {
+        harbour_next_holding(
+            catalogue.as_ptr(), catalogue.len(), cells.as_ptr(), cells.len(),
+            store.keys.as_mut_ptr(), store.keys.len(), store.left.as_mut_ptr(), store.left.len(), store.right.as_mut_ptr(), store.right.len(),
+            call.record.as_mut_ptr(), call.record.len(), call.budget,
+            call.padded.as_mut_ptr(), call.padded.len(), call.result.as_mut_ptr(), call.result.len(),
+        )
+    }
+}
+
 /// The library's covers.
 /// See `words::covers`.
 #[cfg(feature = "stream")]
@@ -89,11 +134,24 @@ pub fn covers(first: &[u64], second: &[u64]) -> u64 {
     unsafe { harbour_covers(first.as_ptr(), first.len(), second.as_ptr(), second.len()) }
 }
 
+/// The library's check of a list of keys.
+/// See `lists::check_list`.
+#[cfg(feature = "stream")]
+pub fn check_list(catalogue: &[u64], cells: &[u64], listed: &[u64], result: &mut [u64]) -> u64 {
+    unsafe {
+        harbour_check_list(
+            catalogue.as_ptr(), catalogue.len(), cells.as_ptr(), cells.len(), listed.as_ptr(), listed.len(), result.as_mut_ptr(), result.len(),
+        )
+    }
+}
+
 /// The peer's own functions under the C names, for trying the programs out while there is no library.
 /// Comparing with them shows nothing about the library.
 #[cfg(feature = "mock")]
 mod mock {
-    use crate::{rule::Store, words};
+    use crate::lists;
+    use crate::rule::{Asked, Store};
+    use crate::words;
     use std::slice;
 
     /// The slice that a C caller lends for reading.
@@ -147,7 +205,21 @@ mod mock {
         record: *mut u64, record_length: usize,
     ) -> u64 {
         let mut store = Store { keys: lent_mut(keys, keys_length), left: lent_mut(left, left_length), right: lent_mut(right, right_length) };
-        words::open(lent(catalogue, catalogue_length), lent(cells, cells_length), &mut store, lent_mut(record, record_length))
+        words::open(Asked::EverySet, lent(catalogue, catalogue_length), lent(cells, cells_length), &mut store, lent_mut(record, record_length))
+    }
+
+    /// The mock of open for the sets that hold one row.
+    /// See `words::open`.
+    #[no_mangle]
+    #[allow(clippy::too_many_arguments)]
+    unsafe extern "C" fn harbour_open_holding(
+        catalogue: *const u64, catalogue_length: usize, cells: *const u64, cells_length: usize,
+        keys: *mut u64, keys_length: usize, left: *mut u16, left_length: usize, right: *mut u16, right_length: usize,
+        table: u64, row: u64, record: *mut u64, record_length: usize,
+    ) -> u64 {
+        let mut store = Store { keys: lent_mut(keys, keys_length), left: lent_mut(left, left_length), right: lent_mut(right, right_length) };
+        let asked = Asked::Holding { table, row };
+        words::open(asked, lent(catalogue, catalogue_length), lent(cells, cells_length), &mut store, lent_mut(record, record_length))
     }
 
     /// The mock of the stream call.
@@ -167,7 +239,27 @@ mod mock {
             padded: lent_mut(padded, padded_length),
             result: lent_mut(result, result_length),
         };
-        words::next(lent(catalogue, catalogue_length), lent(cells, cells_length), &mut store, call).0
+        words::next(words::RECORD, lent(catalogue, catalogue_length), lent(cells, cells_length), &mut store, call).0
+    }
+
+    /// The mock of the call of the sets that hold one row.
+    /// See `words::next`.
+    #[no_mangle]
+    #[allow(clippy::too_many_arguments)]
+    unsafe extern "C" fn harbour_next_holding(
+        catalogue: *const u64, catalogue_length: usize, cells: *const u64, cells_length: usize,
+        keys: *mut u64, keys_length: usize, left: *mut u16, left_length: usize, right: *mut u16, right_length: usize,
+        record: *mut u64, record_length: usize, budget: u64,
+        padded: *mut u64, padded_length: usize, result: *mut u64, result_length: usize,
+    ) -> u64 {
+        let mut store = Store { keys: lent_mut(keys, keys_length), left: lent_mut(left, left_length), right: lent_mut(right, right_length) };
+        let call = words::Call {
+            record: lent_mut(record, record_length),
+            budget,
+            padded: lent_mut(padded, padded_length),
+            result: lent_mut(result, result_length),
+        };
+        words::next(words::HOLDING, lent(catalogue, catalogue_length), lent(cells, cells_length), &mut store, call).0
     }
 
     /// The mock of covers.
@@ -175,5 +267,18 @@ mod mock {
     #[no_mangle]
     unsafe extern "C" fn harbour_covers(first: *const u64, first_length: usize, second: *const u64, second_length: usize) -> u64 {
         words::covers(lent(first, first_length), lent(second, second_length))
+    }
+
+    /// The mock of the check of a list; it drains the stream to know the maximal sets.
+    /// See `lists::check_list`.
+    #[no_mangle]
+    #[allow(clippy::too_many_arguments)]
+    unsafe extern "C" fn harbour_check_list(
+        catalogue: *const u64, catalogue_length: usize, cells: *const u64, cells_length: usize,
+        listed: *const u64, listed_length: usize, result: *mut u64, result_length: usize,
+    ) -> u64 {
+        let (catalogue, cells) = (lent(catalogue, catalogue_length), lent(cells, cells_length));
+        let maximal = if catalogue.len() < words::CATALOGUE { Default::default() } else { lists::drained(&words::catalogue_of(catalogue), cells) };
+        lists::check_list(catalogue, cells, lent(listed, listed_length), &maximal, lent_mut(result, result_length))
     }
 }

@@ -1,7 +1,7 @@
 //! The listing program's output for an image, as text.
-use crate::image;
+use crate::image::{self, Catalogue};
 use crate::refusal::Refusal;
-use crate::rule::{self, set_of, Answer, Counts, Outcome, Store};
+use crate::rule::{self, set_of, Answer, Counts, Outcome, Record, Store};
 use std::fmt::Write;
 
 /// The most bytes that the listing program reads.
@@ -12,9 +12,20 @@ pub const INPUT: usize = 65_536;
 /// It starts as zeros.
 const RECORDS: usize = 4096;
 
-/// The listing of one input.
+/// Opens a stream, as `rule::open` does.
+pub type Open = fn(&Catalogue, &[u64], &mut Store) -> Result<(Record, u64), Refusal>;
+
+/// Moves a stream on, as `rule::next` does.
+pub type Next = fn(&Catalogue, &[u64], &mut Store, &mut Record, u64, &mut [u64]) -> (Outcome, Counts);
+
+/// The listing of one input, by the rule as worded.
 /// Every line ends in LF.
 pub fn list(input: &[u8]) -> String {
+    list_by(input, rule::open, rule::next)
+}
+
+/// The same by any form of the rule.
+pub fn list_by(input: &[u8], open: Open, next: Next) -> String {
     let mut text = String::new();
     if input.len() > INPUT {
         text.push_str("input too long\n");
@@ -30,14 +41,14 @@ pub fn list(input: &[u8]) -> String {
     };
     let (mut keys, mut left, mut right) = (vec![0; RECORDS], vec![0; RECORDS], vec![0; RECORDS]);
     let mut store = Store { keys: &mut keys, left: &mut left, right: &mut right };
-    let (mut record, row_tests) = rule::open(&catalogue, &cells, &mut store).expect("a loaded image opens");
+    let (mut record, row_tests) = open(&catalogue, &cells, &mut store).expect("a loaded image opens");
     let total: u64 = catalogue.rows.iter().map(|&rows| u64::from(rows)).sum();
     writeln!(text, "tables {} {} {} {}", catalogue.m, catalogue.n, total, row_tests).unwrap();
     let mut padded = vec![0; image::ATTRIBUTES as usize];
     let mut sum = Counts::default();
     let mut sets = 0;
     loop {
-        let (outcome, counts) = rule::next(&catalogue, &cells, &mut store, &mut record, total, &mut padded);
+        let (outcome, counts) = next(&catalogue, &cells, &mut store, &mut record, total, &mut padded);
         sum.trials += counts.trials;
         sum.row_tests += counts.row_tests;
         sum.looks += counts.looks;

@@ -67,6 +67,21 @@ impl<'a> Tables<'a> {
         self.catalogue.n as usize
     }
 
+    /// A row by the numbers of its table and itself, if it is there.
+    /// Tables count from 0, rows from 1.
+    fn row(&self, table: u64, row: u64) -> Option<(usize, u16)> {
+        self.order.iter().copied().find(|&(t, r)| t as u64 == table && u64::from(r) == row)
+    }
+
+    /// The row that open extends alone: the first one, or the one that is asked for. Without rows there is no first one.
+    /// A row that is asked for and not there is refused.
+    fn first(&self, asked: Asked) -> Result<Option<(usize, u16)>, Refusal> {
+        match asked {
+            Asked::EverySet => Ok(self.order.first().copied()),
+            Asked::Holding { table, row } => self.row(table, row).map(Some).ok_or(Refusal::NoRow),
+        }
+    }
+
     /// The code of a row at an attribute of its table's scheme.
     /// A row's cells stand by rising attribute.
     fn code(&self, table: usize, row: u16, attribute: u32) -> u64 {
@@ -150,6 +165,24 @@ impl<'a> Tables<'a> {
         self.piece(&turned, row.0)
     }
 
+    /// The key of the set that the first row alone extends to.
+    /// None without rows.
+    pub fn first_extended(&self) -> Option<u64> {
+        let &first = self.order.first()?;
+        let mut set = [0; 8];
+        set[first.0] = first.1;
+        self.extend(&mut set);
+        Some(key_of(&set))
+    }
+
+    /// The key of the set that a trial of the row at a place in row order comes to.
+    /// The key on which it is tried names rows that are there.
+    pub fn reached(&self, key: u64, place: usize) -> u64 {
+        let mut set = self.turned(&set_of(key), self.order[place]);
+        self.extend(&mut set);
+        key_of(&set)
+    }
+
     /// Does a key name a set of rows that are there?
     /// It is not 0, names no missing row and no table from n on.
     pub fn names(&self, key: u64) -> bool {
@@ -163,6 +196,25 @@ impl<'a> Tables<'a> {
         for attribute in 0..self.catalogue.m as u32 {
             let holder = (0..self.tables()).find(|&table| set[table] != 0 && self.catalogue.schemes[table] >> attribute & 1 == 1);
             padded[attribute as usize] = holder.map_or(0, |table| self.code(table, set[table], attribute));
+        }
+    }
+}
+
+/// What a stream is asked for: every maximal set, or those that hold one row (request #109).
+/// The row may be one that is not there.
+#[derive(Clone, Copy, Debug, PartialEq, Eq)]
+pub enum Asked {
+    EverySet,
+    Holding { table: u64, row: u64 },
+}
+
+impl Asked {
+    /// Is a set one of those that are asked for?
+    /// The row that is asked for is there.
+    pub fn wants(self, set: &Set) -> bool {
+        match self {
+            Asked::EverySet => true,
+            Asked::Holding { table, row } => u64::from(set[table as usize]) == row,
         }
     }
 }
@@ -282,11 +334,17 @@ pub fn search(store: &Store, found: u64, tables: usize, key: u64) -> Result<(End
     }
 }
 
-/// Opens a stream: the first row alone is extended and stored as record 0.
-/// It gives the stream record and the row tests; refused, it writes nothing.
+/// Opens the stream of every set.
+/// See `open_for`.
 pub fn open(catalogue: &Catalogue, cells: &[u64], store: &mut Store) -> Result<(Record, u64), Refusal> {
+    open_for(Asked::EverySet, catalogue, cells, store)
+}
+
+/// Opens a stream: the first row, or the row that is asked for, alone is extended and stored as record 0.
+/// It gives the stream record and the row tests; refused, it writes nothing. 19 comes before 12.
+pub fn open_for(asked: Asked, catalogue: &Catalogue, cells: &[u64], store: &mut Store) -> Result<(Record, u64), Refusal> {
     let tables = Tables::checked(catalogue, cells)?;
-    let Some(&first) = tables.order.first() else {
+    let Some(first) = tables.first(asked)? else {
         return Ok((Record::default(), 0));
     };
     if store.records() == 0 {
@@ -313,17 +371,9 @@ pub fn misfit(record: &Record, records: usize, total: u64) -> Option<usize> {
     reasons.iter().position(|&met| met)
 }
 
-/// A trial: the row at place next row on the set in record taken - 1, extended and searched for.
-/// A set not yet there becomes the next record. Only a trial that succeeds leaves a mark.
-fn trial(tables: &Tables, store: &mut Store, record: &mut Record, counts: &mut Counts) -> Result<(), Stop> {
-    let key = store.keys[record.taken as usize - 1];
-    if !tables.names(key) {
-        return Err(Stop::KeyTriedOn);
-    }
-    let row = tables.order[record.next_row as usize];
-    let mut set = tables.turned(&set_of(key), row);
-    let row_tests = tables.extend(&mut set);
-    let sought = key_of(&set);
+/// A search for the key of a set; if it is absent, it becomes the next record.
+/// It gives the looks.
+fn placed(tables: &Tables, store: &mut Store, record: &mut Record, sought: u64) -> Result<u64, Stop> {
     let (ending, looks) = search(store, record.found, tables.tables(), sought)?;
     if let Ending::Empty { record: last, bit } = ending {
         let place = record.found as usize;
@@ -335,6 +385,20 @@ fn trial(tables: &Tables, store: &mut Store, record: &mut Record, counts: &mut C
         *link = place as u16 + 1;
         record.found += 1;
     }
+    Ok(looks)
+}
+
+/// A trial: the row at place next row on the set in record taken - 1, extended and searched for.
+/// A set that is not asked for is not searched for: no look is made. Only a trial that succeeds leaves a mark.
+fn trial(asked: Asked, tables: &Tables, store: &mut Store, record: &mut Record, counts: &mut Counts) -> Result<(), Stop> {
+    let key = store.keys[record.taken as usize - 1];
+    if !tables.names(key) {
+        return Err(Stop::KeyTriedOn);
+    }
+    let row = tables.order[record.next_row as usize];
+    let mut set = tables.turned(&set_of(key), row);
+    let row_tests = tables.extend(&mut set);
+    let looks = if asked.wants(&set) { placed(tables, store, record, key_of(&set))? } else { 0 };
     record.next_row += 1;
     counts.trials += 1;
     counts.row_tests += row_tests;
@@ -351,15 +415,23 @@ pub enum Outcome {
     Answered(Answer),
 }
 
-/// A stream call with its budget of trials.
-/// Checks come first, and change nothing: the catalogue's, then 13, then 11.
+/// A call of the stream of every set.
+/// See `next_for`.
 pub fn next(catalogue: &Catalogue, cells: &[u64], store: &mut Store, record: &mut Record, budget: u64, padded: &mut [u64]) -> (Outcome, Counts) {
+    next_for(Asked::EverySet, catalogue, cells, store, record, budget, padded)
+}
+
+/// A stream call with its budget of trials.
+/// Checks come first, and change nothing: the catalogue's, then 13 (also for a row that is not there), then 11.
+pub fn next_for(
+    asked: Asked, catalogue: &Catalogue, cells: &[u64], store: &mut Store, record: &mut Record, budget: u64, padded: &mut [u64],
+) -> (Outcome, Counts) {
     let mut counts = Counts::default();
     let tables = match Tables::checked(catalogue, cells) {
         Ok(tables) => tables,
         Err(refusal) => return (Outcome::Refused(refusal), counts),
     };
-    if misfit(record, store.records(), tables.total()).is_some() {
+    if misfit(record, store.records(), tables.total()).is_some() || tables.first(asked).is_err() {
         return (Outcome::Refused(Refusal::Record), counts);
     }
     if (padded.len() as u64) < catalogue.m {
@@ -382,7 +454,7 @@ pub fn next(catalogue: &Catalogue, cells: &[u64], store: &mut Store, record: &mu
         if counts.trials == budget {
             return (Outcome::Answered(Answer::Working), counts);
         }
-        if let Err(stop) = trial(&tables, store, record, &mut counts) {
+        if let Err(stop) = trial(asked, &tables, store, record, &mut counts) {
             return (Outcome::Stopped(stop), counts);
         }
     }

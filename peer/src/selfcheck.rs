@@ -1,8 +1,9 @@
-//! The stream's own rule against the definition: what the stream hands out is the full disjunction.
+//! The stream's own rule against the definition: what the stream hands out is the full disjunction, or the part of it that holds one row.
 use crate::brute::Relations;
 use crate::make::{self, Tables};
 use crate::random::Random;
-use crate::rule::{self, Answer, Outcome, Record, Stop, Store};
+use crate::refusal::Refusal;
+use crate::rule::{self, set_of, Answer, Asked, Counts, Outcome, Record, Set, Stop, Store};
 use crate::tally::Tally;
 
 /// A store of its own, for the peer's drains.
@@ -27,13 +28,38 @@ impl OwnStore {
     }
 }
 
+/// The set that the trial of a row on a set comes to, and its row tests, by the stream of every set in a store of its own.
+/// The row is named by its place in row order. A set that is not new is the one that was tried on.
+fn tried(tables: &Tables, key: u64, place: u64) -> Result<(Set, u64), String> {
+    let mut store = OwnStore::of(2);
+    store.keys[0] = key;
+    let mut record = Record { found: 1, taken: 1, next_row: place };
+    let (outcome, counts) = rule::next(&tables.catalogue, &tables.cells, &mut store.lend(), &mut record, 1, &mut [0; 63]);
+    hold!(counts.trials == 1, "a trial on {key:x} gives {outcome:?}");
+    Ok((set_of(store.keys[record.found as usize - 1]), counts.row_tests))
+}
+
+/// Tests the looks of a call with budget 1: at most as many as bits and records allow, and none exactly when no trial was made or its set is not asked for.
+/// `before` is the record before the call, and the key that of the set tried on.
+fn bounded_looks(tables: &Tables, asked: Asked, before: Record, key: u64, counts: Counts) -> Result<(), String> {
+    if counts.trials == 0 {
+        hold!(counts.looks == 0, "{counts:?} without a trial");
+        return Ok(());
+    }
+    let (set, row_tests) = tried(tables, key, before.next_row)?;
+    hold!(counts.row_tests == row_tests, "{counts:?}, by the stream of every set {row_tests} row tests");
+    hold!(counts.looks <= (8 * tables.catalogue.n + 1).min(before.found), "{counts:?} looks");
+    hold!((counts.looks > 0) == asked.wants(&set), "{counts:?} looks for {set:?} where {asked:?}");
+    Ok(())
+}
+
 /// Drains a stream one trial at a time and tests every bound on the way.
-/// The maximal sets come from the definition; the store has exactly one record for each of them.
-fn bounded_drain(tables: &Tables, relations: &Relations, maximal: &[u64]) -> Result<(), String> {
+/// The maximal sets asked for come from the definition; the store has exactly one record for each of them.
+fn bounded_drain(tables: &Tables, relations: &Relations, asked: Asked, maximal: &[u64]) -> Result<(), String> {
     let total: u64 = tables.catalogue.rows.iter().map(|&rows| u64::from(rows)).sum();
     let n = tables.catalogue.n;
     let mut store = OwnStore::of(maximal.len());
-    let (mut record, row_tests) = rule::open(&tables.catalogue, &tables.cells, &mut store.lend()).map_err(|r| format!("open: {r:?}"))?;
+    let (mut record, row_tests) = rule::open_for(asked, &tables.catalogue, &tables.cells, &mut store.lend()).map_err(|r| format!("open: {r:?}"))?;
     hold!(row_tests <= n * total && (total == 0 || row_tests >= total), "open made {row_tests} row tests");
     hold!(record == Record { found: u64::from(total > 0), taken: 0, next_row: total }, "open gave {record:?}");
     let mut padded = vec![u64::MAX; tables.catalogue.m as usize];
@@ -41,12 +67,13 @@ fn bounded_drain(tables: &Tables, relations: &Relations, maximal: &[u64]) -> Res
     let mut trials = if total == 0 { 0 } else { total };
     loop {
         let before = record;
-        let (outcome, counts) = rule::next(&tables.catalogue, &tables.cells, &mut store.lend(), &mut record, 1, &mut padded);
+        let key = store.keys.get(record.taken.saturating_sub(1) as usize).copied().unwrap_or(0);
+        let (outcome, counts) = rule::next_for(asked, &tables.catalogue, &tables.cells, &mut store.lend(), &mut record, 1, &mut padded);
         trials += counts.trials;
         hold!(counts.trials <= 1, "more trials than the budget");
         hold!(record.found - before.found <= counts.trials, "a trial found more than one set");
         hold!(counts.row_tests <= counts.trials * n * total && counts.row_tests >= counts.trials * total, "{counts:?} row tests");
-        hold!(counts.looks <= counts.trials * (8 * n + 1).min(before.found) && counts.looks >= counts.trials, "{counts:?} looks");
+        bounded_looks(tables, asked, before, key, counts)?;
         let mut used = store.keys[..record.found as usize].to_vec();
         used.sort_unstable();
         used.dedup();
@@ -76,7 +103,7 @@ fn bounded_drain(tables: &Tables, relations: &Relations, maximal: &[u64]) -> Res
 
 /// A store with a record too few ends in 12, and a longer one goes on to the same sets.
 /// The counts of the two parts sum up to those of one drain.
-fn full_drain(random: &mut Random, tables: &Tables, maximal: &[u64]) -> Result<(), String> {
+fn full_drain(random: &mut Random, tables: &Tables, asked: Asked, maximal: &[u64]) -> Result<(), String> {
     if maximal.is_empty() {
         return Ok(());
     }
@@ -86,16 +113,16 @@ fn full_drain(random: &mut Random, tables: &Tables, maximal: &[u64]) -> Result<(
     for records in [maximal.len(), maximal.len() - 1] {
         let mut store = OwnStore::of(records);
         if records == 0 {
-            let refused = rule::open(&tables.catalogue, &tables.cells, &mut store.lend());
-            hold!(refused == Err(crate::refusal::Refusal::Full), "a store without records opened");
+            let refused = rule::open_for(asked, &tables.catalogue, &tables.cells, &mut store.lend());
+            hold!(refused == Err(Refusal::Full), "a store without records opened");
             return Ok(());
         }
-        let (mut record, _) = rule::open(&tables.catalogue, &tables.cells, &mut store.lend()).map_err(|r| format!("open: {r:?}"))?;
+        let (mut record, _) = rule::open_for(asked, &tables.catalogue, &tables.cells, &mut store.lend()).map_err(|r| format!("open: {r:?}"))?;
         let mut sum = [0; 3];
         let mut full = false;
         loop {
             let budget = random.pick(&[0, 1, 2, total, u64::MAX]);
-            let (outcome, counts) = rule::next(&tables.catalogue, &tables.cells, &mut store.lend(), &mut record, budget, &mut padded);
+            let (outcome, counts) = rule::next_for(asked, &tables.catalogue, &tables.cells, &mut store.lend(), &mut record, budget, &mut padded);
             sum[0] += counts.trials;
             sum[1] += counts.row_tests;
             sum[2] += counts.looks;
@@ -118,21 +145,48 @@ fn full_drain(random: &mut Random, tables: &Tables, maximal: &[u64]) -> Result<(
     Ok(())
 }
 
-/// Compares the stream with the definition on so many small table sets.
+/// Compares one stream with the definition's sets, with a record for each of them and with one too few.
+/// It gives their number.
+fn one_stream(random: &mut Random, tables: &Tables, relations: &Relations, asked: Asked, maximal: &[u64]) -> Result<usize, String> {
+    let sets: Vec<u64> = maximal.iter().copied().filter(|&key| asked.wants(&set_of(key))).collect();
+    bounded_drain(tables, relations, asked, &sets)?;
+    full_drain(random, tables, asked, &sets)?;
+    Ok(sets.len())
+}
+
+/// Compares the stream of each row with the sets that hold it, and that of every set with all of them.
+/// It gives the number of sets that the rows' streams handed out. A row behind the last, a row 0 and a table from n on are refused with 19.
+fn all_streams(random: &mut Random, tables: &Tables, relations: &Relations, maximal: &[u64]) -> Result<usize, String> {
+    one_stream(random, tables, relations, Asked::EverySet, maximal)?;
+    let (mut sets, n) = (0, tables.catalogue.n);
+    for table in 0..n {
+        let count = u64::from(tables.catalogue.rows[table as usize]);
+        for row in 1..=count {
+            sets += one_stream(random, tables, relations, Asked::Holding { table, row }, maximal)?;
+        }
+        for (table, row) in [(table, 0), (table, count + 1), (n, 1), (n + table, count)] {
+            let refused = rule::open_for(Asked::Holding { table, row }, &tables.catalogue, &tables.cells, &mut OwnStore::of(0).lend());
+            hold!(refused == Err(Refusal::NoRow), "row {row} of table {table} gives {refused:?}");
+        }
+    }
+    Ok(sets)
+}
+
+/// Compares the streams with the definition on so many small table sets.
 /// Each counts as one comparison.
 pub fn run(cases: u64, seed: u64) -> bool {
     let mut random = Random::new(seed);
     let mut tally = Tally::default();
-    let (mut all, mut most) = (0, 0);
+    let (mut all, mut most, mut held) = (0, 0, 0);
     for case in 0..cases {
         let tables = make::stream_tables(&mut random, 1000);
         let relations = Relations::of(&tables);
         let maximal = relations.maximal();
         all += maximal.len();
         most = most.max(maximal.len());
-        let result = bounded_drain(&tables, &relations, &maximal).and_then(|()| full_drain(&mut random, &tables, &maximal));
+        let result = all_streams(&mut random, &tables, &relations, &maximal).map(|sets| held += sets);
         tally.compare(result.map_err(|words| format!("case {case}: {words}; {:?} {:?}", tables.catalogue, tables.cells)));
     }
-    println!("{all} maximal sets, at most {most} of one table set");
+    println!("{all} maximal sets, at most {most} of one table set; {held} sets by the streams of all rows");
     tally.end()
 }

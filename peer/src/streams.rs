@@ -1,12 +1,13 @@
-//! Random calls of open, next and covers on both sides.
-use crate::lending::{Lending, Pair, MISFITS};
+//! Random calls of open, next (of every set, and of those that hold one row) and covers on both sides.
+use crate::lending::{Lending, Pair, MISFITS, NO_SUCH_ROW};
 use crate::lent::Lent;
 use crate::library;
 use crate::make::{self, Tables};
 use crate::random::Random;
 use crate::refusal::Refusal;
+use crate::rule::Asked;
 use crate::tally::Tally;
-use crate::words::{self, CATALOGUE, RECORD, RESULT};
+use crate::words::{self, CATALOGUE, HOLDING, RECORD, RESULT};
 
 /// The answers that a run has to meet, call by call.
 /// A key that is tried on is tested at a call's first trial, so that way to 14 never comes after trials.
@@ -15,6 +16,10 @@ const NEXT: [&str; 21] = [
     "set", "set after trials", "finished", "finished after trials", "working", "working after trials", "4", "5", "6", "8", "11", "12",
     "12 after trials", "14 key handed out", "14 key handed out after trials", "14 key tried on", "14 link", "14 link after trials", "14 looks",
     "14 looks after trials", "31",
+];
+const OPEN_HOLDING: [&str; 11] = ["0", "4", "5", "6", "8", "12", "19 no table", "19 row 0", "19 row passes count", "19 before 12", "31"];
+const UNSEARCHED: [&str; 4] = [
+    "set after trials without a look", "finished after trials without a look", "working after trials without a look", "12 after trials without a look",
 ];
 const COVERS: [&str; 3] = ["0", "1", "0 unequal length"];
 
@@ -56,6 +61,22 @@ fn some_tables(random: &mut Random) -> Tables {
     tables
 }
 
+/// A row to ask for: mostly one that is there, else a table from n on, row 0, or a row above the table's count.
+/// Numbers that are there but for a high part are among them. The catalogue's words tell which rows are there.
+fn some_row(random: &mut Random, words: &[u64]) -> (u64, u64) {
+    let n = words[1].clamp(1, 8);
+    let full: Vec<u64> = (0..n).filter(|&table| words[10 + table as usize] > 0).collect();
+    let table = if full.is_empty() { random.below(n) } else { random.pick(&full) };
+    let count = words[10 + table as usize].min(1 << 32);
+    let row = 1 + random.below(count.max(1));
+    match random.below(16) {
+        0 => (random.pick(&[n, n, n + 1, 8, table + 8, table + 256, table + (1 << 32), u64::MAX]), row),
+        1 => (table, 0),
+        2 => (table, random.pick(&[count + 1, count + 1, count + 2, row + 256, row + 65_536, row + (1 << 32), u64::MAX])),
+        _ => (table, row),
+    }
+}
+
 /// A key that may be damaged: 0, anything, rows that are there, one row too high, or a table from n on.
 /// The catalogue's words tell which rows are there.
 fn some_key(random: &mut Random, words: &[u64], key: u64) -> u64 {
@@ -84,7 +105,8 @@ fn damage_store(random: &mut Random, lending: &mut Lending) {
         0 | 1 => {
             let key = some_key(random, lending.catalogue.slice(), lending.keys.slice()[place]);
             let taken = lending.record.slice().get(1).copied().unwrap_or(0);
-            let aimed = random.pick(&[place, (taken as usize).min(used - 1), (taken as usize).clamp(1, used) - 1]);
+            let due = (taken as usize).min(used - 1);
+            let aimed = random.pick(&[place, due, due, (taken as usize).clamp(1, used) - 1]);
             lending.keys.slice_mut()[aimed] = key;
         }
         2 => {
@@ -124,13 +146,17 @@ fn chain_store(random: &mut Random, lending: &mut Lending) {
     lending.record.slice_mut()[..RECORD].copy_from_slice(&[length as u64, 1, random.below(total + 1)]);
 }
 
-/// Damages the stream record, aimed at one of the six reasons for 13, or at random.
+/// Damages the stream record, aimed at one of the six reasons for 13, or at random; a record that names a row may name another.
 /// A random record may still fit.
 fn damage_record(random: &mut Random, lending: &mut Lending) {
     let (records, total) = (lending.records() as u64, lending.total().min(5000));
     let Some(record) = lending.stream_record() else {
         return;
     };
+    if lending.record_words() == HOLDING && random.percent(30) {
+        let (table, row) = some_row(random, lending.catalogue.slice());
+        return lending.record.slice_mut()[RECORD..HOLDING].copy_from_slice(&[table, row]);
+    }
     let words = &mut lending.record.slice_mut()[..RECORD];
     match random.below(7) {
         0 => words[0] = random.pick(&[records + 1, records + 2, 65_536, 1 << 32, u64::MAX]),
@@ -178,7 +204,7 @@ fn damage(random: &mut Random, lending: &mut Lending) {
         }
         11 => match random.below(3) {
             0 => lending.catalogue = cut(random, &lending.catalogue, CATALOGUE),
-            1 => lending.record = cut(random, &lending.record, RECORD),
+            1 => lending.record = cut(random, &lending.record, lending.record_words()),
             _ => lending.result = cut(random, &lending.result, RESULT),
         },
         12 => {
@@ -281,15 +307,27 @@ fn compare_covers(random: &mut Random, tally: &mut Tally) -> Result<(), String> 
     Ok(())
 }
 
-/// One comparison: a drain or damaged calls, and three pairs of padded rows.
-/// The store is small, so that it is often full.
+/// One comparison: three pairs of padded rows, a stream of every set, and two of the sets that hold a row.
+/// One of these is of the same tables, the other of a star, in which a row is in many sets.
 fn compare_one(random: &mut Random, tally: &mut Tally) -> Result<(), String> {
     for _ in 0..3 {
         compare_covers(random, tally)?;
     }
     let tables = some_tables(random);
+    compare_stream(random, &tables, Asked::EverySet, tally)?;
+    let counts: Vec<u16> = (0..random.range(2, 4)).map(|_| random.range(1, 4) as u16).collect();
+    for tables in [tables, make::star(&counts)] {
+        let (table, row) = some_row(random, &words::words_of(&tables.catalogue));
+        compare_stream(random, &tables, Asked::Holding { table, row }, tally)?;
+    }
+    Ok(())
+}
+
+/// One stream: a drain or damaged calls.
+/// The store is small, so that it is often full.
+fn compare_stream(random: &mut Random, tables: &Tables, asked: Asked, tally: &mut Tally) -> Result<(), String> {
     let records = random.pick(&[0, 1, 2, 3, 5, 9, 30, 100, 100]);
-    let mut pair = Pair::of(Lending::of(random, &tables, records));
+    let mut pair = Pair::of(Lending::of(random, tables, asked, records));
     if random.percent(35) && tables.cells.len() < 300 {
         drain(random, &mut pair, tally)
     } else {
@@ -299,18 +337,19 @@ fn compare_one(random: &mut Random, tally: &mut Tally) -> Result<(), String> {
 
 /// The edges of the longest store: it never has more than 65,535 records, whatever is lent.
 /// Two rows of one table; the first set is handed out, and the trial of row 2 looks for key 2. Record 1 can be handed out.
-fn longest_store(random: &mut Random, tally: &mut Tally) -> Result<(), String> {
+fn longest_store(random: &mut Random, tally: &mut Tally, asked: Asked) -> Result<(), String> {
     let mut tables = make::star(&[2]);
     tables.cells = vec![2, 2, 3, 3];
     let edges = [(65_534, 65_535, 32), (65_534, 65_534, 12), (65_535, 65_535, 12), (65_535, 65_536, 12), (65_535, 70_000, 12), (65_536, 70_000, 13)];
     for (found, lent, answer) in edges {
-        let mut lending = Lending::of(random, &tables, 0);
+        let mut lending = Lending::of(random, &tables, asked, 0);
         lending.keys = Lent::pattern(lent, random);
         lending.left = Lent::pattern(lent, random);
         lending.right = Lent::pattern(lent + 1, random);
         lending.keys.slice_mut()[..2].copy_from_slice(&[1, 1]);
         lending.left.slice_mut()[0] = 0;
-        lending.record.slice_mut()[..RECORD].copy_from_slice(&[found, 1, 1]);
+        let words = lending.record_words();
+        lending.record.slice_mut()[..words].copy_from_slice(&[found, 1, 1, 0, 2][..words]);
         let mut pair = Pair::of(lending);
         let got = pair.next(1, tally)?;
         hold!(got == answer, "a store of {lent} with {found} found gives {got} instead of {answer}");
@@ -326,10 +365,10 @@ type Sets = &'static [(u64, &'static [u64])];
 
 /// Drains one stream on both sides and compares it with sets written down by hand.
 /// Behind the last of them the stream is finished.
-fn written_down(random: &mut Random, tally: &mut Tally, name: &str, image: &str, sets: Sets) -> Result<(), String> {
+fn written_down(random: &mut Random, tally: &mut Tally, name: &str, image: &str, asked: Asked, sets: Sets) -> Result<(), String> {
     let (catalogue, cells) = crate::image::read(&crate::edges::hex(image), 8192).map_err(|fault| format!("{name}: {fault:?}"))?;
     let tables = Tables { catalogue, cells };
-    let mut pair = Pair::of(Lending::of(random, &tables, 20));
+    let mut pair = Pair::of(Lending::of(random, &tables, asked, 20));
     pair.open(tally)?;
     for (key, padded) in sets {
         hold!(pair.next(u64::MAX, tally)? == 32, "edge {name}: no set");
@@ -357,11 +396,35 @@ fn edges(random: &mut Random, tally: &mut Tally) {
         ("an early null does not block", "01 03 03 03 01 02 00 05 01 02 03 06 01 05 03".to_string(), &[(0x101, &[2, 0, 3]), (0x1_0100, &[2, 5, 3])]),
     ];
     for (name, image, sets) in cases {
-        let result = written_down(random, tally, name, &image, sets);
+        let result = written_down(random, tally, name, &image, Asked::EverySet, sets);
         tally.compare(result);
     }
-    let result = longest_store(random, tally);
-    tally.compare(result);
+    for asked in [Asked::EverySet, Asked::Holding { table: 0, row: 2 }] {
+        let result = longest_store(random, tally, asked);
+        tally.compare(result);
+    }
+}
+
+/// The edges of the stream of one row, on the rules' sample and on three tables of which two sets share a row.
+/// Each is a table, a row and the sets that hold it.
+fn row_edges(random: &mut Random, tally: &mut Tally) {
+    let sample = "01 03 03 03 02 02 0B 03 15 06 02 0B 08 8B 80 80 80 10 0A 05 02 02 08 03 00";
+    let shared = "01 03 03 03 01 02 00 05 01 02 03 06 01 05 03";
+    let cases: [(&str, &str, u64, u64, Sets); 9] = [
+        ("sample, first row", sample, 0, 1, &[(0x1_0101, &[2, 11, 8])]),
+        ("sample, row 2 of table 0", sample, 0, 2, &[(0x2_0002, &[3, 21, 0])]),
+        ("sample, row 1 of table 1", sample, 1, 1, &[(0x1_0101, &[2, 11, 8])]),
+        ("sample, row 2 of table 1", sample, 1, 2, &[(0x200, &[0, 4_294_967_307, 10])]),
+        ("sample, last row", sample, 2, 2, &[(0x2_0002, &[3, 21, 0])]),
+        ("shared, row of one set", shared, 0, 1, &[(0x101, &[2, 0, 3])]),
+        ("shared, row of two sets", shared, 1, 1, &[(0x101, &[2, 0, 3]), (0x1_0100, &[2, 5, 3])]),
+        ("shared, row of the other set", shared, 2, 1, &[(0x1_0100, &[2, 5, 3])]),
+        ("a null row", "01 01 02 01 01 00 01 01 00", 1, 1, &[(0x100, &[0])]),
+    ];
+    for (name, image, table, row, sets) in cases {
+        let result = written_down(random, tally, name, image, Asked::Holding { table, row }, sets);
+        tally.compare(result);
+    }
 }
 
 /// Compares the edges and so many random cases on both sides.
@@ -373,6 +436,7 @@ pub fn compare(cases: u64, seed: u64, least: u64) -> bool {
         println!("MOCK: the peer is compared with itself");
     }
     edges(&mut random, &mut tally);
+    row_edges(&mut random, &mut tally);
     for case in 0..cases {
         let result = compare_one(&mut random, &mut tally).map_err(|words| format!("case {case}: {words}"));
         tally.compare(result);
@@ -380,6 +444,9 @@ pub fn compare(cases: u64, seed: u64, least: u64) -> bool {
     let next: Vec<&str> = NEXT.iter().chain(&MISFITS).copied().collect();
     tally.table("open", &OPEN, least);
     tally.table("next", &next, least);
+    let next: Vec<&str> = NEXT.iter().chain(&UNSEARCHED).chain(&MISFITS).copied().chain([NO_SUCH_ROW]).collect();
+    tally.table("open_holding", &OPEN_HOLDING, least);
+    tally.table("next_holding", &next, least);
     tally.table("covers", &COVERS, least);
     tally.calls();
     tally.end()

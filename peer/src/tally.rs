@@ -55,7 +55,7 @@ impl Tally {
             counts.push((key.1, met));
         }
         let columns: Vec<String> = counts.iter().map(|(answer, met)| format!("{answer}: {met}")).collect();
-        println!("{call:<8} {}", columns.join(", "));
+        println!("{call:<12} {}", columns.join(", "));
     }
 
     /// Prints how many calls were counted.

@@ -1,11 +1,12 @@
 //! The peer's functions in the form of the C calls: over slices of words, with one number as the answer.
 use crate::image::{self, Catalogue};
-use crate::rule::{self, Answer, Counts, Outcome, Record, Store};
+use crate::rule::{self, Answer, Asked, Counts, Outcome, Record, Store};
 
-/// The words of a catalogue, a record and a result.
+/// The words of a catalogue, a record, a record that names a row, and a result.
 /// Longer slices are lent too; the words behind stay.
 pub const CATALOGUE: usize = 18;
 pub const RECORD: usize = 3;
+pub const HOLDING: usize = 5;
 pub const RESULT: usize = 4;
 
 /// The answer when a word slice is too short.
@@ -71,22 +72,30 @@ pub fn write(catalogue: &[u64], cells: &[u64], out: &mut [u8]) -> u64 {
     }
 }
 
-/// Open: row tests x 32 + refusal, with the record in three words.
+/// Open: row tests x 32 + refusal, with the record in its words.
 /// A refusal gives a record of zeros and no row tests.
-pub fn open(catalogue: &[u64], cells: &[u64], store: &mut Store, record: &mut [u64]) -> u64 {
-    if catalogue.len() < CATALOGUE || record.len() < RECORD {
+pub fn open(asked: Asked, catalogue: &[u64], cells: &[u64], store: &mut Store, record: &mut [u64]) -> u64 {
+    let needed = if asked == Asked::EverySet { RECORD } else { HOLDING };
+    if catalogue.len() < CATALOGUE || record.len() < needed {
         return SHORT_SLICE;
     }
-    let (answer, opened) = match rule::open(&catalogue_of(catalogue), cells, store) {
-        Ok((opened, row_tests)) => (row_tests * 32, opened),
-        Err(refusal) => (refusal.number(), Record::default()),
-    };
-    put_record(&opened, record);
-    answer
+    match rule::open_for(asked, &catalogue_of(catalogue), cells, store) {
+        Ok((opened, row_tests)) => {
+            put_record(&opened, record);
+            if let Asked::Holding { table, row } = asked {
+                record[RECORD..HOLDING].copy_from_slice(&[table, row]);
+            }
+            row_tests * 32
+        }
+        Err(refusal) => {
+            record[..needed].fill(0);
+            refusal.number()
+        }
+    }
 }
 
 /// Writes a record's three words.
-/// Words behind them stay.
+/// Words behind them stay: those that name a row too.
 fn put_record(moved: &Record, record: &mut [u64]) {
     record[..RECORD].copy_from_slice(&[moved.found, moved.taken, moved.next_row]);
 }
@@ -113,13 +122,14 @@ pub struct Call<'a> {
 }
 
 /// Stream call: the answer, the moved record, and key, trials, row tests and looks in the result.
-/// The outcome beside the answer is for counting only; a short slice has none.
-pub fn next(catalogue: &[u64], cells: &[u64], store: &mut Store, call: Call) -> (u64, Option<Outcome>) {
-    if catalogue.len() < CATALOGUE || call.record.len() < RECORD || call.result.len() < RESULT {
+/// The record has so many words, RECORD or HOLDING. The outcome beside the answer is for counting only; a short slice has none.
+pub fn next(needed: usize, catalogue: &[u64], cells: &[u64], store: &mut Store, call: Call) -> (u64, Option<Outcome>) {
+    if catalogue.len() < CATALOGUE || call.record.len() < needed || call.result.len() < RESULT {
         return (SHORT_SLICE, None);
     }
+    let asked = if needed == RECORD { Asked::EverySet } else { Asked::Holding { table: call.record[3], row: call.record[4] } };
     let mut record = Record { found: call.record[0], taken: call.record[1], next_row: call.record[2] };
-    let (outcome, counts) = rule::next(&catalogue_of(catalogue), cells, store, &mut record, call.budget, call.padded);
+    let (outcome, counts) = rule::next_for(asked, &catalogue_of(catalogue), cells, store, &mut record, call.budget, call.padded);
     put_record(&record, call.record);
     let key = if let Outcome::Answered(Answer::Set(key)) = outcome { key } else { 0 };
     let Counts { trials, row_tests, looks } = counts;

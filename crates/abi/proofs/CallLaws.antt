@@ -5,10 +5,10 @@ use mathlib.Core.Bool.{true, false}
 use mathlib.Core.List.{List}
 use Rattle.laws.specs.Lists.{put}
 use Rattle.tables.specs.declared.Catalogue.{Catalogue}
-use Rattle.image.specs.declared.Loaded.{Loaded}
-use Rattle.image.specs.declared.Written.{Written}
-use Rattle.image.specs.Load.{firstTable, tablesCodes, cellsAfter, Loads}
-use Rattle.image.specs.Write.{Writes}
+use Rattle.loader.specs.declared.Loaded.{Loaded}
+use Rattle.writer.specs.declared.Written.{Written}
+use Rattle.loader.specs.Load.{firstTable, tablesCodes, cellsAfter, Loads}
+use Rattle.writer.specs.Write.{Writes}
 use Rattle.verdicts.specs.Number.{doorNumber}
 use Rattle.abi.specs.Words.{wordsOf, catalogueIn}
 use Rattle.abi.specs.Calls.{tooFewWords, short, LoadCall, writtenNumber, WriteCall}

@@ -1,3 +1,4 @@
 pub mod WordLaws
 pub mod CallLaws
 pub mod StreamCallLaws
+pub mod ListCallLaws

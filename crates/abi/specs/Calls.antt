@@ -7,10 +7,10 @@ use mathlib.Core.List.{List}
 use lib.ListN.{length}
 use lib.Dec.{ltb}
 use Rattle.laws.specs.Lists.{put}
-use Rattle.image.specs.declared.Written.{Written}
-use Rattle.image.specs.declared.Written.the-variants.{Length, Refused}
-use Rattle.image.specs.Load.{firstTable, scanOf, tablesCodes, cellsAfter}
-use Rattle.image.specs.Write.{imageOf, written, bytesAfter}
+use Rattle.writer.specs.declared.Written.{Written}
+use Rattle.writer.specs.declared.Written.the-variants.{Length, Refused}
+use Rattle.loader.specs.Load.{firstTable, scanOf, tablesCodes, cellsAfter}
+use Rattle.writer.specs.Write.{imageOf, written, bytesAfter}
 use Rattle.padding.specs.Covering.{covering}
 use Rattle.verdicts.specs.Number.{doorNumber}
 use Rattle.abi.specs.Words.{catalogueWords, wordsOf, catalogueIn}

@@ -6,9 +6,10 @@ ghost use lib.Dec.{ltb};
 ghost use Rattle.laws.specs.Lists.{put};
 ghost use Rattle.abi.specs.Words.{catalogueWords, wordsOf, countIn, catalogueIn};
 ghost use Rattle.abi.specs.Calls.{LoadCall, WriteCall};
-use image::Written;
 use tables::Catalogue;
+use writer::Written;
 
+pub mod lists;
 pub mod streams;
 
 // The word of a catalogue at a place: m, n, the eight schemes, the eight row counts.
@@ -94,7 +95,7 @@ pub extern "C" fn harbour_load(image: &[u8], cells: &mut [u64], catalogue: &mut 
     if too_few(catalogue.len()) {
         return 31;
     }
-    let r = image::load(image, cells);
+    let r = loader::load(image, cells);
     let verdict = r.verdict;
     let cat = r.catalogue;
     put_catalogue(cat, catalogue);
@@ -111,7 +112,7 @@ pub extern "C" fn harbour_write(catalogue: &[u64], cells: &[u64], out: &mut [u8]
         return 31;
     }
     let cat = catalogue_in(catalogue);
-    match image::write(cat, cells, out) {
+    match writer::write(cat, cells, out) {
         Written::Length(n) => (n as u64) * 32,
         Written::Refused(k) => k as u64,
     }

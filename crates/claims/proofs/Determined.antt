@@ -18,10 +18,10 @@ use Rattle.stream.specs.declared.HoldingRecord.{HoldingRecord}
 use Rattle.stream.specs.Promises.{heldBy, stateWith, saysOf, calledWith, calledOf, calledHolding, openedWith, openedHolding}
 use Rattle.harbour.specs.declared.NextAnswer.{NextAnswer}
 use Rattle.harbour.specs.Answers.{withRecord, withHolding}
-use Rattle.image.specs.declared.Loaded.{Loaded}
-use Rattle.image.specs.declared.Written.{Written}
-use Rattle.image.specs.Load.{firstTable, tablesCodes, cellsAfter, Loads}
-use Rattle.image.specs.Write.{imageOf, bytesAfter, Writes}
+use Rattle.loader.specs.declared.Loaded.{Loaded}
+use Rattle.writer.specs.declared.Written.{Written}
+use Rattle.loader.specs.Load.{firstTable, tablesCodes, cellsAfter, Loads}
+use Rattle.writer.specs.Write.{imageOf, bytesAfter, Writes}
 use Rattle.tables.specs.declared.Catalogue.{Catalogue}
 use Rattle.abi.specs.Streams.{Opening, Calling}
 use Rattle.claims.specs.Outcomes.{OneOutcome}
@@ -218,6 +218,7 @@ determined =
       «next_holding» = λ cat cells s keys left right row b r r′ q q′ ks ls rs w ks′ ls′ rs′ w′ e e′.
           holding-nexts-one r r′ q q′ ks ls rs w ks′ ls′ rs′ w′ (e ∙ sym e′);
       covers = λ first second r r′ e e′. e ∙ sym e′;
+      «check_list» = λ cat cells words r r′ e e′. e ∙ sym e′;
       check = λ s r r′ e e′. e ∙ sym e′;
       «harbour_load» = λ image cells words r r′ cs ws cs′ ws′ c d.
           (c .answer ∙ sym (d .answer), c .cells-after ∙ sym (d .cells-after), c .words-after ∙ sym (d .words-after));
@@ -227,4 +228,5 @@ determined =
       «harbour_open_holding» = λ catalogue cells keys left right t n words r r′ ks ls rs ws ks′ ls′ rs′ ws′ c d. opening-one c d;
       «harbour_next_holding» = λ catalogue cells keys left right words b row result r r′ ks ls rs ws w res ks′ ls′ rs′ ws′ w′ res′ c d. calling-one c d;
       «harbour_covers» = λ first second r r′ c d. c ∙ sym d;
+      «harbour_check_list» = λ catalogue cells listed result r r′ w w′ c d. (c .answer ∙ sym (d .answer), c .result-after ∙ sym (d .result-after));
     }

@@ -19,10 +19,10 @@ use Rattle.rows.specs.World.{touchesIn, fitsIn}
 use Rattle.rows.specs.Named.{missing, beyond, named}
 use Rattle.store.specs.Store as Store
 use Rattle.store.specs.Store.{linkOf, searchOf, filed, added, answerOf, storeAfter}
-use Rattle.image.specs.Reading.{runEnd, codes, rowsFrom}
-use Rattle.image.specs.declared.Loaded.{Loaded}
+use Rattle.loader.specs.Reading.{runEnd, codes, rowsFrom}
+use Rattle.loader.specs.declared.Loaded.{Loaded}
 use Rattle.image.specs.RoundTrip.{found}
-use Rattle.image.specs.Load.{firstTable, cellsAfter, fieldAt, countAt, tableAt, tablesFrom, scanOf, tablesCodes}
+use Rattle.loader.specs.Load.{firstTable, cellsAfter, fieldAt, countAt, tableAt, tablesFrom, scanOf, tablesCodes}
 use Rattle.image.proofs.Edges.{number-edges, image-edges}
 use Rattle.machine.specs.Machine.{placed, offered, trialOn, handOut, dueOr, work, unfit, callFault, call, openFault, begun, openingFor}
 use Rattle.machine.specs.Runs.{runOf, handed}

@@ -14,14 +14,15 @@ use Rattle.laws.specs.Lists.{put}
 use Rattle.laws.proofs.TestLaws.{clash}
 use Rattle.tables.specs.declared.Catalogue.{Catalogue}
 use Rattle.disjunction.specs.Asked.{Asked, everySet, everyWith}
-use Rattle.image.specs.declared.Verdict.{Verdict}
-use Rattle.image.specs.declared.Verdict.the-variants.{Good, Refused}
-use Rattle.image.specs.declared.Loaded.{Loaded}
-use Rattle.image.specs.declared.Written.{Written}
-use Rattle.image.specs.declared.Written.the-variants as Written
-use Rattle.image.specs.Load.{firstTable, noCatalogue, farthest, NearVerdict, scanOf, tablesCodes, cellsAfter, Loads}
-use Rattle.image.specs.Write.{imageOf, written, bytesAfter}
-use Rattle.image.proofs.PlaceLaws.{scan-near}
+use Rattle.loader.specs.declared.Fault.{Fault}
+use Rattle.loader.specs.declared.Verdict.{Verdict}
+use Rattle.loader.specs.declared.Verdict.the-variants.{Good, Refused}
+use Rattle.loader.specs.declared.Loaded.{Loaded}
+use Rattle.writer.specs.declared.Written.{Written}
+use Rattle.writer.specs.declared.Written.the-variants as Written
+use Rattle.loader.specs.Load.{firstTable, noCatalogue, farthest, NearVerdict, scanOf, tablesCodes, cellsAfter, Loads}
+use Rattle.writer.specs.Write.{imageOf, written, bytesAfter}
+use Rattle.loader.proofs.PlaceLaws.{scan-near}
 use Rattle.verdicts.specs.Number.{doorNumber}
 use Rattle.machine.specs.Machine.{State, stateFor, Says, aSet, finished, working, refused, Called, answer, callFault, call, Opened, zeros, openingFor}
 use Rattle.machine.proofs.RefusalLaws.{call-refused}
@@ -72,15 +73,15 @@ module _ (image : List ℕ) (room : ℕ) where
     where
       by : (v : Verdict) → NearVerdict farthest v → doorNumber v ≡ tooFewWords → ⊥
       by Good n e = absurd (omega arith)
-      by (Refused k p) n e = absurd (omega (arith, n .1))
+      by (Refused f) n e = absurd (omega (arith, n .1))
 
   door-good : (doorNumber (scanOf image room .verdict) ≡ 0) ↔ (scanOf image room .verdict ≡ Good)
   door-good = by (scanOf image room .verdict) refl
     where
       by : (v : Verdict) → scanOf image room .verdict ≡ v → (doorNumber v ≡ 0) ↔ (v ≡ Good)
       by Good d = (λ e. refl, λ e. refl)
-      by (Refused k p) d = (
-        λ e. let (x, i, r, h) = load-exact image room .refuses k p .0 d in absurd (omega (arith, some-refusal image room h)),
+      by (Refused f) d = (
+        λ e. let (x, i, r, h) = load-exact image room .refuses f .0 d in absurd (omega (arith, some-refusal image room h)),
         λ e. absurd (let z : _≡_ {A = ℕ} 0 1 = cc in omega arith),
       )
 
@@ -96,18 +97,18 @@ module _ (image cells words : List ℕ) (r : ℕ) (cells′ words′ : List ℕ)
     load-answer : r ≡ doorNumber (scanOf image (length cells) .verdict)
     load-answer = behind (short words) tooFewWords (doorNumber (scanOf image (length cells) .verdict)) r long (c .answer)
 
-    load-refused : (k p : ℕ) → scanOf image (length cells) .verdict ≡ Refused k p
-        → (r % 32 ≡ k) × (r / 32 ≡ p) × (cells′ ≡ cells) × (words′ ≡ put (wordsOf noCatalogue) words)
-    load-refused k p e =
-        let n : NearVerdict farthest (Refused k p) = subst (NearVerdict farthest) e (near image (length cells)) in
-        let a : r ≡ p * 32 + k = load-answer ∙ ap doorNumber e in (
+    load-refused : (f : Fault) → scanOf image (length cells) .verdict ≡ Refused f
+        → (r % 32 ≡ f .refusal) × (r / 32 ≡ f .place) × (cells′ ≡ cells) × (words′ ≡ put (wordsOf noCatalogue) words)
+    load-refused f e =
+        let n : NearVerdict farthest (Refused f) = subst (NearVerdict farthest) e (near image (length cells)) in
+        let a : r ≡ f .place * 32 + f .refusal = load-answer ∙ ap doorNumber e in (
           omega (arith, n .1),
           omega (arith, n .1),
           behind (short words) cells (cellsAfter (scanOf image (length cells) .verdict) (tablesCodes (scanOf image (length cells) .catalogue .n) image
               firstTable) cells) cells′ long (c .cells-after)
               ∙ ap (λ (v : Verdict). cellsAfter v (tablesCodes (scanOf image (length cells) .catalogue .n) image firstTable) cells) e,
           behind (short words) words (put (wordsOf (scanOf image (length cells) .catalogue)) words) words′ long (c .words-after)
-              ∙ ap (λ (t : Catalogue). put (wordsOf t) words) (scan-zeros image (length cells) k p e),
+              ∙ ap (λ (t : Catalogue). put (wordsOf t) words) (scan-zeros image (length cells) f e),
         )
 
 module _ (words cells out : List ℕ) (r : ℕ) (out′ : List ℕ) (c : WriteCall words cells out r out′) where

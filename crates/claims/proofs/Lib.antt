@@ -27,3 +27,4 @@ pub mod WriteExactly
 pub mod InARow
 pub mod Imaged
 pub mod ForC
+pub mod ListChecked

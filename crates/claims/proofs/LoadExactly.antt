@@ -3,7 +3,7 @@
 use Prim.Native.Nat.{ℕ, zero, suc, _+_, _*_, _^_, _≤_, _<_}
 use native.Mathlib.Decide.{decLt, ℕ-discrete}
 use native.Mathlib.Omega.{arith}
-use mathlib.Core.Path.{_≡_, refl}
+use mathlib.Core.Path.{_≡_, refl, ap, ap₂, subst}
 use mathlib.Core.Logic.{_⊎_, inl, inr}
 use mathlib.Core.Bool.{Bool, true, false}
 use mathlib.Core.List.{List}
@@ -12,12 +12,13 @@ use lib.Count.{ones}
 use Rattle.numbers.specs.declared.Reading.{Reading}
 use Rattle.numbers.specs.declared.Reading.the-variants.{Number, NumberFault}
 use Rattle.numbers.specs.Numbers.{decode}
-use Rattle.tables.specs.Sizes.{mostAttributes, mostTables, mostRows, mostCells}
+use Rattle.tables.specs.Sizes.{mostAttributes, mostTables, mostRows, mostCells, version}
 use Rattle.tables.specs.Rows.{below}
-use Rattle.image.specs.declared.Verdict.{Verdict}
-use Rattle.image.specs.declared.Verdict.the-variants.{Good, Refused}
-use Rattle.image.specs.Reading.{codes}
-use Rattle.image.specs.Load.{version, scanOf}
+use Rattle.loader.specs.declared.Fault.{Fault}
+use Rattle.loader.specs.declared.Verdict.{Verdict}
+use Rattle.loader.specs.declared.Verdict.the-variants.{Good, Refused}
+use Rattle.loader.specs.Reading.{refusalAt, codes}
+use Rattle.loader.specs.Load.{scanOf}
 use Rattle.verdicts.specs.Number.{doorNumber}
 use Rattle.door.specs.Door.{checkOf}
 use Rattle.door.proofs.DoorLaws.{door-tells}
@@ -29,10 +30,10 @@ module _ (s : List ℕ) (room : ℕ) where
   -- ---- every reading ends
 
   abbrev Ended : Type 0
-  Ended = ((k : ℕ) × (p : ℕ) × FirstFault s room k p) ⊎ ReadWhole s room
+  Ended = ((f : Fault) × FirstFault s room f) ⊎ ReadWhole s room
 
-  met : {d : Due} {i k p : ℕ} → Reaches s room d i → Meets s room d i k p → Ended
-  met {d} {i} {k} {p} r h = inl (k, p, (d, i, r, h))
+  met : {d : Due} {i : ℕ} {f : Fault} → Reaches s room d i → Meets s room d i f → Ended
+  met {d} {i} {f} r h = inl (f, (d, i, r, h))
 
   -- Where a number is due, its own fault ends the reading; else its meaning decides.
   read : (d : Due) (i : ℕ) → NumberDue d → Reaches s room d i → ((x j : ℕ) → decode s i ≡ Number x j → Ended) → Ended
@@ -128,33 +129,31 @@ module _ (s : List ℕ) (room : ℕ) where
 
   -- ---- so each refusal is given exactly when
 
-  one-refusal : (o : Verdict) (k p l q : ℕ) → o ≡ Refused k p → o ≡ Refused l q → (l ≡ k) × (q ≡ p)
-  one-refusal o k p l q a b = (cc, cc)
+  one-refusal : (o : Verdict) (f g : Fault) → o ≡ Refused f → o ≡ Refused g → g ≡ f
+  one-refusal o f g a b = cc
 
-  not-both : {A : Type 0} (o : Verdict) (k p : ℕ) → o ≡ Refused k p → o ≡ Good → A
-  not-both o k p a b = absurd (let z : _≡_ {A = ℕ} 0 1 = cc in omega arith)
+  not-both : {A : Type 0} (o : Verdict) (f : Fault) → o ≡ Refused f → o ≡ Good → A
+  not-both o f a b = absurd (let z : _≡_ {A = ℕ} 0 1 = cc in omega arith)
 
-  refused-fault : (k p : ℕ) → scanOf s room .verdict ≡ Refused k p → Ended → FirstFault s room k p
-  refused-fault k p e (inr w) = not-both (scanOf s room .verdict) k p e (whole-good s room w)
-  refused-fault k p e (inl (l, q, f)) =
-      let (a, b) = one-refusal (scanOf s room .verdict) k p l q e (fault-refused s room l q f) in
-      rw (← a, ← b) f
+  refused-fault : (f : Fault) → scanOf s room .verdict ≡ Refused f → Ended → FirstFault s room f
+  refused-fault f e (inr w) = not-both (scanOf s room .verdict) f e (whole-good s room w)
+  refused-fault f e (inl (g, h)) = subst (FirstFault s room) (one-refusal (scanOf s room .verdict) f g e (fault-refused s room g h)) h
 
   good-whole : scanOf s room .verdict ≡ Good → Ended → ReadWhole s room
   good-whole e (inr w) = w
-  good-whole e (inl (l, q, f)) = not-both (scanOf s room .verdict) l q (fault-refused s room l q f) e
+  good-whole e (inl (g, h)) = not-both (scanOf s room .verdict) g (fault-refused s room g h) e
 
   pub load-exact : LoadExact s room
   load-exact =
       record {
-        refuses = λ k p. (λ e. refused-fault k p e ended, fault-refused s room k p);
+        refuses = λ f. (λ e. refused-fault f e ended, fault-refused s room f);
         accepts = (λ e. good-whole e ended, whole-good s room);
       }
 
 -- ---- the C door
 
 -- No refusal is 0, which the door keeps for good.
-pub some-refusal : (s : List ℕ) (room : ℕ) {d : Due} {i k p : ℕ} → Meets s room d i k p → 0 < k
+pub some-refusal : (s : List ℕ) (room : ℕ) {d : Due} {i : ℕ} {f : Fault} → Meets s room d i f → 0 < f .refusal
 some-refusal s room (number {i = i} {f = f} n e) = by (number-exact s i .no-other f e)
   where
     by : (f ≡ 1) ⊎ (f ≡ 2) → 0 < f
@@ -174,25 +173,26 @@ module _ (s : List ℕ) where
   unfolding checkOf
   says-door v e = rw e
 
-  door-refused : (k p : ℕ) → k < 32 → 0 < k → checkOf s ≡ p * 32 + k → (v : Verdict) → scanOf s mostCells .verdict ≡ v → v ≡ Refused k p
+  door-refused : (k p : ℕ) → k < 32 → 0 < k → checkOf s ≡ p * 32 + k → (v : Verdict) → scanOf s mostCells .verdict ≡ v → v ≡ Refused (refusalAt k p)
   door-refused k p l z c Good e = absurd (omega (arith, says-door Good e))
-  door-refused k p l z c (Refused f q) e =
-      let t = door-tells s f q e in
-      let (b, d) : (f ≡ k) × (q ≡ p) = (omega arith, omega arith) in
-      rw (b, d)
+  door-refused k p l z c (Refused f) e =
+      let t = door-tells s f e in
+      let b : f .refusal ≡ k = omega arith in
+      let d : f .place ≡ p = omega arith in
+      ap Refused (ap₂ refusalAt b d)
 
   door-good : checkOf s ≡ 0 → (v : Verdict) → scanOf s mostCells .verdict ≡ v → v ≡ Good
   door-good c Good e = refl
-  door-good c (Refused f q) e =
-      let (d, i, r, h) = load-exact s mostCells .refuses f q .0 e in
-      absurd (omega (arith, some-refusal s mostCells h, says-door (Refused f q) e))
+  door-good c (Refused f) e =
+      let (d, i, r, h) = load-exact s mostCells .refuses f .0 e in
+      absurd (omega (arith, some-refusal s mostCells h, says-door (Refused f) e))
 
   pub check-exact : CheckExact s
   check-exact =
       record {
         refuses = λ k p l z. (
-          λ c. load-exact s mostCells .refuses k p .0 (door-refused k p l z c (scanOf s mostCells .verdict) refl),
-          λ f. says-door (Refused k p) (fault-refused s mostCells k p f),
+          λ c. load-exact s mostCells .refuses (refusalAt k p) .0 (door-refused k p l z c (scanOf s mostCells .verdict) refl),
+          λ f. says-door (Refused (refusalAt k p)) (fault-refused s mostCells (refusalAt k p) f),
         );
         accepts = (λ c. load-exact s mostCells .accepts .0 (door-good c (scanOf s mostCells .verdict) refl), λ w. says-door Good (whole-good s mostCells w));
       }

@@ -14,29 +14,30 @@ use lib.Pow.{pow-pos}
 use borrow.Author.Tests.{lt-ltb, le-ltb}
 use Rattle.numbers.specs.declared.Reading.the-variants.{Number, NumberFault}
 use Rattle.numbers.specs.Numbers.{decode}
-use Rattle.tables.specs.Sizes.{mostAttributes, mostTables, mostRows, mostCells}
+use Rattle.tables.specs.Sizes.{mostAttributes, mostTables, mostRows, mostCells, version}
 use Rattle.tables.specs.Rows as order
 use Rattle.tables.specs.Checks.{outside, countFault}
 use Rattle.tables.proofs.CheckLaws.{inside, below, above, scheme-zero, scheme-high, scheme-good, count-many, count-most, count-lent, count-good}
-use Rattle.image.specs.declared.Walk.{Walk}
-use Rattle.image.specs.declared.Walk.the-variants.{To, Fault}
-use Rattle.image.specs.declared.Field.{Field}
-use Rattle.image.specs.declared.Field.the-variants.{Value, FieldFault}
-use Rattle.image.specs.declared.Entry.{Entry}
-use Rattle.image.specs.declared.Entry.the-variants.{Table, TableFault}
-use Rattle.image.specs.declared.Verdict.{Verdict}
-use Rattle.image.specs.declared.Verdict.the-variants.{Good, Refused}
-use Rattle.image.specs.declared.Loaded.{Loaded}
-use Rattle.image.specs.Reading.{onWalk, runEnd, codes, rowsFrom}
-use Rattle.image.specs.Load.{version, refused, fieldAt, onField, entryOf, countAt, tableAt, onEntry, tablesFrom, scanOf}
-use Rattle.image.proofs.LoadLaws.{count-bad, count-fault, count-rows, table-bad, table-scheme, table-count, field-bad, field-out, field-in}
+use Rattle.loader.specs.declared.Fault.{Fault}
+use Rattle.loader.specs.declared.Walk.{Walk}
+use Rattle.loader.specs.declared.Walk.the-variants.{To, WalkFault}
+use Rattle.loader.specs.declared.Field.{Field}
+use Rattle.loader.specs.declared.Field.the-variants.{Value, FieldFault}
+use Rattle.loader.specs.declared.Entry.{Entry}
+use Rattle.loader.specs.declared.Entry.the-variants.{Table, TableFault}
+use Rattle.loader.specs.declared.Verdict.{Verdict}
+use Rattle.loader.specs.declared.Verdict.the-variants.{Good, Refused}
+use Rattle.loader.specs.declared.Loaded.{Loaded}
+use Rattle.loader.specs.Reading.{refusalAt, onWalk, runEnd, codes, rowsFrom}
+use Rattle.loader.specs.Load.{refused, fieldAt, onField, entryOf, countAt, tableAt, onEntry, tablesFrom, scanOf}
+use Rattle.loader.proofs.LoadLaws.{count-bad, count-fault, count-rows, table-bad, table-scheme, table-count, field-bad, field-out, field-in}
 use Rattle.claims.specs.LoadRefusals.{Before, none, rowAt, Due, theVersion, attributes, tables, table, rowCount, rows, cells, NumberDue, Rises, Passes, version-is, m-is, n-is, scheme-is, count-is, row-begins, cell-is, row-rises, rows-end, Meets, number, other-version, m-out, n-out, bad-scheme, many-rows, many-cells, not-rising, surplus, Reaches, start, on, FirstFault, ReadWhole}
 
 -- ---- what is still to be said
 
 abbrev fieldSays : Field → (ℕ → ℕ → Verdict) → Verdict
 fieldSays (Value x n) go = go x n
-fieldSays (FieldFault k p) go = Refused k p
+fieldSays (FieldFault f) go = Refused f
 
 abbrev isFirst : Before → Bool
 isFirst none = true
@@ -49,7 +50,7 @@ placeOf (rowAt q) = q
 module _ (s : List ℕ) (room : ℕ) where
   -- k tables from place i on
   unfoldable tablesSay : ℕ → ℕ → ℕ → ℕ → Verdict
-  tablesSay zero m u i = cond (ltb i (length s)) (Refused 9 i) Good
+  tablesSay zero m u i = cond (ltb i (length s)) (Refused (refusalAt 9 i)) Good
   tablesSay (suc k) m u i = onEntry (tableAt s room m u i) (λ x c v e. tablesSay k m v e) Refused
 
   -- a table that came to this, with k tables behind it
@@ -59,14 +60,14 @@ module _ (s : List ℕ) (room : ℕ) where
   -- rows that came to this, with u cells so far and k tables behind them
   abbrev walkSays : ℕ → ℕ → ℕ → Walk → Verdict
   walkSays m k u (To n) = tablesSay k m u n
-  walkSays m k u (Fault f p) = Refused f p
+  walkSays m k u (WalkFault f) = Refused f
 
   abbrev risesAt : ℕ → Before → ℕ → Bool
   risesAt w b p = isFirst b || order.below (codes w s (placeOf b)) (codes w s p)
 
   -- the cells of the row at place p that came to this, with c rows behind it
   abbrev rowWalk : ℕ → ℕ → Before → ℕ → Walk → Walk
-  rowWalk w c b p r = onWalk r (λ n. cond (risesAt w b p) (rowsFrom c w s false p n) (Fault 7 p))
+  rowWalk w c b p r = onWalk r (λ n. cond (risesAt w b p) (rowsFrom c w s false p n) (WalkFault (refusalAt 7 p)))
 
   abbrev sizeSays : ℕ → ℕ → Verdict
   sizeSays m i = fieldSays (fieldAt s i 1 mostTables 4) (λ n j. tablesSay n m 0 j)
@@ -89,8 +90,8 @@ module _ (s : List ℕ) (room : ℕ) where
   unfolding tablesFrom tablesSay
   tables-say zero m n t u xs cs i = by (ltb i (length s))
     where
-      by : (b : Bool) → cond b (refused 9 i) (record { verdict = Good; catalogue = record { m = m; n = n; schemes = xs; rows = cs } }) .verdict ≡ cond
-          b (Refused 9 i) Good
+      by : (b : Bool) → cond b (refused (refusalAt 9 i)) (record { verdict = Good; catalogue = record { m = m; n = n; schemes = xs; rows = cs } }) .verdict
+          ≡ cond b (Refused (refusalAt 9 i)) Good
       by true = refl
       by false = refl
   tables-say (suc k) m n t u xs cs i = by (tableAt s room m u i) (λ x c v e. tables-say k m n (t + 1) v (set xs t x) (set cs t c) e)
@@ -98,11 +99,11 @@ module _ (s : List ℕ) (room : ℕ) where
       by : (o : Entry) → ((x c v e : ℕ) → tablesFrom k s room m n (t + 1) v (set xs t x) (set cs t c) e .verdict ≡ tablesSay k m v e)
           → onEntry o (λ x c v e. tablesFrom k s room m n (t + 1) v (set xs t x) (set cs t c) e) refused .verdict ≡ entrySays m k o
       by (Table x c v e) ih = ih x c v e
-      by (TableFault f p) ih = refl
+      by (TableFault f) ih = refl
 
   field-says : (o : Field) (go : ℕ → ℕ → Loaded) (say : ℕ → ℕ → Verdict) → ((x n : ℕ) → go x n .verdict ≡ say x n) → onField o go .verdict ≡ fieldSays o say
   field-says (Value x n) go say h = h x n
-  field-says (FieldFault k p) go say h = refl
+  field-says (FieldFault f) go say h = refl
 
   abbrev sizeLoaded : ℕ → ℕ → Loaded
   sizeLoaded m j = onField (fieldAt s j 1 mostTables 4) (λ n k. tablesFrom n s room m n 0 0 (replicate 8 0) (replicate 8 0) k)
@@ -136,10 +137,10 @@ module _ (s : List ℕ) (room : ℕ) where
           | no l ↦ above low high x (omega arith) h
         ]
 
-    field-meets : (x j : ℕ) → decode s i ≡ Number x j → (x < low) ⊎ (high < x) → fieldSays (fieldAt s i low high f) go ≡ Refused f i
+    field-meets : (x j : ℕ) → decode s i ≡ Number x j → (x < low) ⊎ (high < x) → fieldSays (fieldAt s i low high f) go ≡ Refused (refusalAt f i)
     field-meets x j e h = rw (field-out s i low high f x j e (out x h))
 
-    field-faulty : (k : ℕ) → decode s i ≡ NumberFault k → fieldSays (fieldAt s i low high f) go ≡ Refused k i
+    field-faulty : (k : ℕ) → decode s i ≡ NumberFault k → fieldSays (fieldAt s i low high f) go ≡ Refused (refusalAt k i)
     field-faulty k e = rw (field-bad s i low high f k e)
 
   -- ---- a table
@@ -149,14 +150,14 @@ module _ (s : List ℕ) (room : ℕ) where
     unfolding tablesSay
     scheme-passes z h = rw (table-count s room m u i x j e (scheme-good m x (λ q. omega arith) h))
 
-    scheme-meets : (x ≡ 0) ⊎ (2 ^ m ≤ x) → tablesSay (suc k) m u i ≡ Refused 5 i
+    scheme-meets : (x ≡ 0) ⊎ (2 ^ m ≤ x) → tablesSay (suc k) m u i ≡ Refused (refusalAt 5 i)
     unfolding tablesSay
     scheme-meets (inl z) = rw (table-scheme s room m u i x j e (scheme-zero m x z))
     scheme-meets (inr h) = rw (table-scheme s room m u i x j e (scheme-high m x (λ q. omega (arith, pow-pos m)) h))
 
   entry-walk : (m k u x c : ℕ) (r : Walk) → entrySays m k (entryOf x c u r) ≡ walkSays m k u r
   entry-walk m k u x c (To n) = refl
-  entry-walk m k u x c (Fault f p) = refl
+  entry-walk m k u x c (WalkFault f) = refl
 
   module _ (m k u x i c j : ℕ) (e : decode s i ≡ Number c j) where
     count-passes : c ≤ mostRows → u + c * ones x ≤ mostCells → u + c * ones x ≤ room
@@ -164,7 +165,7 @@ module _ (s : List ℕ) (room : ℕ) where
     count-passes h a b =
         rw (count-rows s room x u i c j e (count-good room u x c h a b)) (entry-walk m k (u + c * ones x) x c (rowsFrom c (ones x) s true 0 j))
 
-    count-meets : (f : ℕ) → countFault room u x c ≡ suc f → entrySays m k (countAt s room x u i) ≡ Refused (suc f) i
+    count-meets : (f : ℕ) → countFault room u x c ≡ suc f → entrySays m k (countAt s room x u i) ≡ Refused (refusalAt (suc f) i)
     count-meets f h = rw (count-fault s room x u i c j e (λ z. omega arith), h)
 
   many : (u x c : ℕ) → c ≤ mostRows → (mostCells < u + c * ones x) ⊎ (room < u + c * ones x) → countFault room u x c ≡ 8
@@ -195,7 +196,7 @@ module _ (s : List ℕ) (room : ℕ) where
 
   -- ---- what is at fault decides
 
-  number-decides : (d : Due) (i f : ℕ) → NumberDue d → decode s i ≡ NumberFault f → says d i ≡ Refused f i
+  number-decides : (d : Due) (i f : ℕ) → NumberDue d → decode s i ≡ NumberFault f → says d i ≡ Refused (refusalAt f i)
   unfolding says tablesSay runEnd
   number-decides theVersion i f h e = field-faulty i version version 3 (λ v n. headSays n) f e
   number-decides attributes i f h e = field-faulty i 1 mostAttributes 4 (λ x n. sizeSays x n) f e
@@ -217,7 +218,7 @@ module _ (s : List ℕ) (room : ℕ) where
         ]
       ]
 
-  decides : {d : Due} {i k p : ℕ} → Meets s room d i k p → says d i ≡ Refused k p
+  decides : {d : Due} {i : ℕ} {f : Fault} → Meets s room d i f → says d i ≡ Refused f
   unfolding says tablesSay runEnd
   decides (number {d = d} {i = i} {f = f} h e) = number-decides d i f h e
   decides (other-version {i = i} {j = j} {v = v} e h) = field-meets i version version 3 (λ x n. headSays n) v j e (not-one v h)
@@ -235,8 +236,8 @@ module _ (s : List ℕ) (room : ℕ) where
   reached start = scan-says
   reached (on r p) = reached r ∙ keeps p
 
-  pub fault-refused : (k p : ℕ) → FirstFault s room k p → scanOf s room .verdict ≡ Refused k p
-  fault-refused k p (d, i, r, h) = reached r ∙ decides h
+  pub fault-refused : (f : Fault) → FirstFault s room f → scanOf s room .verdict ≡ Refused f
+  fault-refused f (d, i, r, h) = reached r ∙ decides h
 
   pub whole-good : ReadWhole s room → scanOf s room .verdict ≡ Good
   unfolding says tablesSay

@@ -6,15 +6,17 @@ use mathlib.Core.List.{List}
 use lib.ListN.{length, set, replicate}
 use lib.Dec.{ltb}
 use Rattle.tables.specs.declared.Catalogue.{Catalogue}
-use Rattle.tables.specs.Sizes.{mostAttributes, mostTables}
-use Rattle.image.specs.declared.Field.{Field}
-use Rattle.image.specs.declared.Field.the-variants.{Value, FieldFault}
-use Rattle.image.specs.declared.Entry.{Entry}
-use Rattle.image.specs.declared.Entry.the-variants.{Table, TableFault}
-use Rattle.image.specs.declared.Verdict.{Verdict}
-use Rattle.image.specs.declared.Verdict.the-variants.{Good, Refused}
-use Rattle.image.specs.declared.Loaded.{Loaded}
-use Rattle.image.specs.Load.{version, firstTable, noCatalogue, refused, fieldAt, onField, tableAt, onEntry, tablesFrom, scanOf, tablesCodes, cellsAfter}
+use Rattle.tables.specs.Sizes.{mostAttributes, mostTables, version}
+use Rattle.loader.specs.declared.Fault.{Fault}
+use Rattle.loader.specs.declared.Field.{Field}
+use Rattle.loader.specs.declared.Field.the-variants.{Value, FieldFault}
+use Rattle.loader.specs.declared.Entry.{Entry}
+use Rattle.loader.specs.declared.Entry.the-variants.{Table, TableFault}
+use Rattle.loader.specs.declared.Verdict.{Verdict}
+use Rattle.loader.specs.declared.Verdict.the-variants.{Good, Refused}
+use Rattle.loader.specs.declared.Loaded.{Loaded}
+use Rattle.loader.specs.Reading.{refusalAt}
+use Rattle.loader.specs.Load.{firstTable, noCatalogue, refused, fieldAt, onField, tableAt, onEntry, tablesFrom, scanOf, tablesCodes, cellsAfter}
 use Rattle.disjunction.specs.Asked.{everySet}
 use Rattle.machine.specs.Machine.{Called, Opened}
 use Rattle.stream.specs.Promises.{stateOf}
@@ -25,20 +27,20 @@ use Rattle.claims.proofs.Exact.{demand1}
 -- A refused load has a catalogue of zeros.
 abbrev Zeroed : Verdict → Catalogue → Type 0
 Zeroed Good cat = _≡_ {A = ℕ} 0 0
-Zeroed (Refused k p) cat = cat ≡ noCatalogue
+Zeroed (Refused f) cat = cat ≡ noCatalogue
 
 abbrev Zeroes : Loaded → Type 0
 Zeroes r = Zeroed (r .verdict) (r .catalogue)
 
 on-field : (f : Field) (go : ℕ → ℕ → Loaded) → ((x n : ℕ) → Zeroes (go x n)) → Zeroes (onField f go)
 on-field (Value x n) go h = h x n
-on-field (FieldFault k p) go h = refl
+on-field (FieldFault f) go h = refl
 
 tables-zero : (k : ℕ) (s : List ℕ) (room m n t used : ℕ) (xs cs : List ℕ) (i : ℕ) → Zeroes (tablesFrom k s room m n t used xs cs i)
 unfolding tablesFrom
 tables-zero zero s room m n t used xs cs i = by (ltb i (length s))
   where
-    by : (b : Bool) → Zeroes (cond b (refused 9 i) (record { verdict = Good; catalogue = record { m = m; n = n; schemes = xs; rows = cs } }))
+    by : (b : Bool) → Zeroes (cond b (refused (refusalAt 9 i)) (record { verdict = Good; catalogue = record { m = m; n = n; schemes = xs; rows = cs } }))
     by true = refl
     by false = refl
 tables-zero (suc k) s room m n t used xs cs i =
@@ -47,7 +49,7 @@ tables-zero (suc k) s room m n t used xs cs i =
     by : ((x c u e : ℕ) → Zeroes (tablesFrom k s room m n (t + 1) u (set xs t x) (set cs t c) e)) → (o : Entry)
         → Zeroes (onEntry o (λ x c u e. tablesFrom k s room m n (t + 1) u (set xs t x) (set cs t c) e) refused)
     by ih (Table x c u e) = ih x c u e
-    by ih (TableFault k p) = refl
+    by ih (TableFault f) = refl
 
 scan-zero : (s : List ℕ) (room : ℕ) → Zeroes (scanOf s room)
 unfolding scanOf
@@ -57,13 +59,13 @@ scan-zero s room =
     on-field (fieldAt s j 1 mostTables 4) _ (λ n k.
     tables-zero n s room m n 0 0 (replicate 8 0) (replicate 8 0) k)))
 
-pub scan-zeros : (s : List ℕ) (room k p : ℕ) → scanOf s room .verdict ≡ Refused k p → scanOf s room .catalogue ≡ noCatalogue
-scan-zeros s room k p e = subst (λ (v : Verdict). Zeroed v (scanOf s room .catalogue)) e (scan-zero s room)
+pub scan-zeros : (s : List ℕ) (room : ℕ) (f : Fault) → scanOf s room .verdict ≡ Refused f → scanOf s room .catalogue ≡ noCatalogue
+scan-zeros s room f e = subst (λ (v : Verdict). Zeroed v (scanOf s room .catalogue)) e (scan-zero s room)
 
 pub unchanged : Unchanged
 unchanged =
     record {
-      load = λ s lent after r k p l e. (
+      load = λ s lent after r f l e. (
         subst (λ (v : Verdict). Zeroed v (r .catalogue)) e (subst Zeroes (sym (l .answer)) (scan-zero s (length lent))),
         l .cells ∙ ap (λ (v : Verdict). cellsAfter v (tablesCodes (r .catalogue .n) s firstTable) lent) e,
       );

@@ -16,8 +16,8 @@ use Rattle.tables.specs.declared.Catalogue.{Catalogue}
 use Rattle.tables.specs.Catalogues.{schemeOf, countOf, firstCell, rowStart}
 use Rattle.tables.specs.Rows.{below}
 use Rattle.tables.specs.Checks.{firstOf}
-use Rattle.image.specs.Write.{tooHigh, rowsFault}
-use Rattle.image.proofs.AcceptLaws.{rowsAt}
+use Rattle.writer.specs.Write.{tooHigh, rowsFault}
+use Rattle.writer.proofs.AcceptLaws.{rowsAt}
 use Rattle.claims.specs.WriteRefusals.{rowCells, HighCode, NotRising, GoodRow}
 use Rattle.claims.proofs.ScanLaws.{Case, case-of, step-iff, last-iff, scan, meets-iff, meets-none}
 

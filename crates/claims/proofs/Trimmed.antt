@@ -32,7 +32,7 @@ use Rattle.rows.specs.Named.{missing, beyond, named, rowsThere}
 use Rattle.store.specs.Store.{Store, storeIn, roomIn}
 use Rattle.image.specs.RoundTrip.{front}
 use Rattle.image.proofs.RoundTrip.{found-good, load-trimmed}
-use Rattle.image.specs.Write.{encodes, tablesImage, imageOf, rowsFault, tablesRefusal, writeFault, lengthFault, written}
+use Rattle.writer.specs.Write.{encodes, tablesImage, imageOf, rowsFault, tablesRefusal, writeFault, lengthFault, written}
 use Rattle.machine.specs.Machine.{State, keyAt, keyDue, Trial, done, full, deepest, offeredIf, damaged, trialDue, trialOn, Called, finished, working, refused, answer, afterTrial, stray, unfit, callFault, unlessMet, paddedIn, handOut, dueOr, work, call, Opened, openFault, firstGrown, begun, openingFor}
 use Rattle.machine.proofs.RefusalLaws.{call-clear}
 use Rattle.claims.specs.Ignored.{entered, Agree, Ignored}

@@ -13,10 +13,10 @@ use borrow.Author.Tests.{eqb-true, eqb-false}
 use Rattle.tables.specs.declared.Catalogue.{Catalogue}
 use Rattle.tables.specs.Checks.{firstOf, sizeFault}
 use Rattle.tables.proofs.CheckLaws.{faultAt, first-none, first-clear}
-use Rattle.image.specs.declared.Written.{Written}
-use Rattle.image.specs.declared.Written.the-variants.{Length, Refused}
-use Rattle.image.specs.Write.{imageOf, tableRefusal, tablesRefusal, writeFault, lengthFault, writtenOf, written}
-use Rattle.image.proofs.AcceptLaws.{rowsAt}
+use Rattle.writer.specs.declared.Written.{Written}
+use Rattle.writer.specs.declared.Written.the-variants.{Length, Refused}
+use Rattle.writer.specs.Write.{imageOf, tableRefusal, tablesRefusal, writeFault, lengthFault, writtenOf, written}
+use Rattle.writer.proofs.AcceptLaws.{rowsAt}
 use Rattle.claims.specs.CatalogueRefusals.{SizesOut, GoodHead}
 use Rattle.claims.specs.WriteRefusals.{GoodTable, WritesTo, WritesToRow, WritesAll, WriteExact}
 use Rattle.claims.proofs.ScanLaws.{lt-iff, Where, Case, case-of, last-iff, first-iff, scan-of}

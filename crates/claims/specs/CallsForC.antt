@@ -7,10 +7,11 @@ use mathlib.Core.List.{List, [], _∷_}
 use lib.ListN.{length}
 use Rattle.laws.specs.Lists.{put}
 use Rattle.disjunction.specs.Asked.{Asked, everySet, everyWith}
-use Rattle.image.specs.declared.Verdict.the-variants.{Good, Refused}
-use Rattle.image.specs.declared.Written.the-variants as Written
-use Rattle.image.specs.Load.{noCatalogue, scanOf}
-use Rattle.image.specs.Write.{written}
+use Rattle.loader.specs.declared.Fault.{Fault}
+use Rattle.loader.specs.declared.Verdict.the-variants.{Good, Refused}
+use Rattle.writer.specs.declared.Written.the-variants as Written
+use Rattle.loader.specs.Load.{noCatalogue, scanOf}
+use Rattle.writer.specs.Write.{written}
 use Rattle.machine.specs.Machine.{State, Says, aSet, finished, working, refused, Called, callFault, call, Opened, zeros, openingFor}
 use Rattle.stream.specs.Promises.{stateOf, holdingStateOf}
 use Rattle.abi.specs.Words.{catalogueWords, wordsOf, catalogueIn}
@@ -56,8 +57,8 @@ pub record AbiExact : Type 0 where
       → (r ≡ 0) ↔ (scanOf image (length cells) .verdict ≡ Good)
   -- A refused load: refusal and place are read off; it leaves the cells and gives a catalogue of zeros.
   pub load-refused : (image cells words : List ℕ) (r : ℕ) (cells′ words′ : List ℕ) → LoadCall image cells words r cells′ words′ → catalogueWords ≤ length words
-      → (k p : ℕ) → scanOf image (length cells) .verdict ≡ Refused k p
-      → (r % 32 ≡ k) × (r / 32 ≡ p) × (cells′ ≡ cells) × (words′ ≡ put (wordsOf noCatalogue) words)
+      → (f : Fault) → scanOf image (length cells) .verdict ≡ Refused f
+      → (r % 32 ≡ f .refusal) × (r / 32 ≡ f .place) × (cells′ ≡ cells) × (words′ ≡ put (wordsOf noCatalogue) words)
   pub write-few : (words cells out : List ℕ) (r : ℕ) (out′ : List ℕ) → WriteCall words cells out r out′ → (r ≡ tooFewWords) ↔ (length words < catalogueWords)
   pub write-length : (words cells out : List ℕ) (r : ℕ) (out′ : List ℕ) → WriteCall words cells out r out′ → catalogueWords ≤ length words
       → (n : ℕ) → written (catalogueIn words) cells (length out) ≡ Written.Length n → (r % 32 ≡ 0) × (r / 32 ≡ n)

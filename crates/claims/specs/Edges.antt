@@ -10,8 +10,8 @@ use Rattle.tables.specs.declared.Catalogue.{Catalogue}
 use Rattle.tables.specs.Sample.{sampleBytes, three, threeCells}
 use Rattle.tables.specs.Sizes.{mostCells}
 use Rattle.rows.specs.World.{fitsIn}
-use Rattle.image.specs.declared.Loaded.{Loaded}
-use Rattle.image.specs.Load.{firstTable, scanOf, tablesCodes, Loads}
+use Rattle.loader.specs.declared.Loaded.{Loaded}
+use Rattle.loader.specs.Load.{firstTable, scanOf, tablesCodes, Loads}
 use Rattle.image.specs.RoundTrip.{found}
 use Rattle.image.specs.Edges.{NumberEdges, ImageEdges}
 use Rattle.machine.specs.Machine.{Says, aSet, finished, Called, call, opening}

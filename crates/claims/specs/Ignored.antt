@@ -6,10 +6,10 @@ use mathlib.Core.List.{List}
 use lib.ListN.{getD}
 use Rattle.tables.specs.declared.Catalogue.{Catalogue}
 use Rattle.tables.specs.Catalogues.{schemeOf, countOf}
-use Rattle.image.specs.declared.Verdict.the-variants.{Good}
-use Rattle.image.specs.declared.Loaded.{Loaded}
-use Rattle.image.specs.Load.{Loads}
-use Rattle.image.specs.Write.{imageOf, written}
+use Rattle.loader.specs.declared.Verdict.the-variants.{Good}
+use Rattle.loader.specs.declared.Loaded.{Loaded}
+use Rattle.loader.specs.Load.{Loads}
+use Rattle.writer.specs.Write.{imageOf, written}
 use Rattle.image.specs.RoundTrip.{trimmed}
 use Rattle.disjunction.specs.Asked.{Asked}
 use Rattle.machine.specs.Machine.{State, call, openingFor}

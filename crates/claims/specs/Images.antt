@@ -15,12 +15,12 @@ use Rattle.rows.specs.World.{worldOf}
 use Rattle.rows.specs.Named.{There}
 use Rattle.disjunction.specs.Sets.{MoreOf}
 use Rattle.disjunction.specs.Asked.{Asked, everySet, everyWith, Sought}
-use Rattle.image.specs.declared.Verdict.the-variants.{Good}
-use Rattle.image.specs.declared.Loaded.{Loaded}
-use Rattle.image.specs.declared.Written.{Written}
-use Rattle.image.specs.declared.Written.the-variants.{Length}
-use Rattle.image.specs.Load.{Loads}
-use Rattle.image.specs.Write.{Writes}
+use Rattle.loader.specs.declared.Verdict.the-variants.{Good}
+use Rattle.loader.specs.declared.Loaded.{Loaded}
+use Rattle.writer.specs.declared.Written.{Written}
+use Rattle.writer.specs.declared.Written.the-variants.{Length}
+use Rattle.loader.specs.Load.{Loads}
+use Rattle.writer.specs.Write.{Writes}
 use Rattle.image.specs.RoundTrip.{found, trimmed}
 use Rattle.store.specs.Store.{storeIn, roomIn}
 use Rattle.machine.specs.Machine.{State, finished, refused, Called, call}

@@ -12,3 +12,4 @@ pub mod Ignored
 pub mod Unchanged
 pub mod CallsForC
 pub mod Holdings
+pub mod ListChecks

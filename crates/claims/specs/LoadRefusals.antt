@@ -9,11 +9,12 @@ use lib.ListN.{length, getD}
 use lib.Count.{ones}
 use Rattle.numbers.specs.declared.Reading.the-variants.{Number, NumberFault}
 use Rattle.numbers.specs.Numbers.{mostBytes, decode}
-use Rattle.tables.specs.Sizes.{mostAttributes, mostTables, mostRows, mostCells}
+use Rattle.tables.specs.Sizes.{mostAttributes, mostTables, mostRows, mostCells, version}
 use Rattle.tables.specs.Rows.{below}
-use Rattle.image.specs.declared.Verdict.the-variants.{Good, Refused}
-use Rattle.image.specs.Reading.{codes}
-use Rattle.image.specs.Load.{version, scanOf}
+use Rattle.loader.specs.declared.Fault.{Fault}
+use Rattle.loader.specs.declared.Verdict.the-variants.{Good, Refused}
+use Rattle.loader.specs.Reading.{refusalAt, codes}
+use Rattle.loader.specs.Load.{scanOf}
 use Rattle.door.specs.Door.{checkOf}
 
 -- ---- a number's own faults
@@ -92,25 +93,25 @@ pub data Passes (s : List ℕ) (room : ℕ) : Due → ℕ → Due → ℕ → Ty
   rows-end : {i m k u x : ℕ} {b : Before} → Passes s room (rows m k u x 0 b) i (table m k u) i
 
 -- What is due at place i is at fault: the refusal, and its place. "The place is the first byte of the number at fault, for 7 of the row, for 9 of the surplus."
-pub data Meets (s : List ℕ) (room : ℕ) : Due → ℕ → ℕ → ℕ → Type 0 where
+pub data Meets (s : List ℕ) (room : ℕ) : Due → ℕ → Fault → Type 0 where
   -- "a number's own faults (1, 2) as it is read, then its meaning"
-  number : {d : Due} {i f : ℕ} → NumberDue d → decode s i ≡ NumberFault f → Meets s room d i f i
+  number : {d : Due} {i f : ℕ} → NumberDue d → decode s i ≡ NumberFault f → Meets s room d i (refusalAt f i)
   -- "3: the version isn't 1"
-  other-version : {i j v : ℕ} → decode s i ≡ Number v j → (v ≡ version → ⊥) → Meets s room theVersion i 3 i
+  other-version : {i j v : ℕ} → decode s i ≡ Number v j → (v ≡ version → ⊥) → Meets s room theVersion i (refusalAt 3 i)
   -- "4: m or n out of range"
-  m-out : {i j m : ℕ} → decode s i ≡ Number m j → (m < 1) ⊎ (mostAttributes < m) → Meets s room attributes i 4 i
-  n-out : {i j m n : ℕ} → decode s i ≡ Number n j → (n < 1) ⊎ (mostTables < n) → Meets s room (tables m) i 4 i
+  m-out : {i j m : ℕ} → decode s i ≡ Number m j → (m < 1) ⊎ (mostAttributes < m) → Meets s room attributes i (refusalAt 4 i)
+  n-out : {i j m n : ℕ} → decode s i ≡ Number n j → (n < 1) ⊎ (mostTables < n) → Meets s room (tables m) i (refusalAt 4 i)
   -- "5: a scheme is 0 or not below 2^m"
-  bad-scheme : {i j m k u x : ℕ} → decode s i ≡ Number x j → (x ≡ 0) ⊎ (2 ^ m ≤ x) → Meets s room (table m (suc k) u) i 5 i
+  bad-scheme : {i j m k u x : ℕ} → decode s i ≡ Number x j → (x ≡ 0) ⊎ (2 ^ m ≤ x) → Meets s room (table m (suc k) u) i (refusalAt 5 i)
   -- "6: more than 255 rows"
-  many-rows : {i j m k u x c : ℕ} → decode s i ≡ Number c j → mostRows < c → Meets s room (rowCount m k u x) i 6 i
+  many-rows : {i j m k u x c : ℕ} → decode s i ≡ Number c j → mostRows < c → Meets s room (rowCount m k u x) i (refusalAt 6 i)
   -- "8: cells so far, this table included, pass 8,192 or the lent cell slice"; "at a row count 6, then 8"
   many-cells : {i j m k u x c : ℕ} → decode s i ≡ Number c j → c ≤ mostRows → (mostCells < u + c * ones x) ⊎ (room < u + c * ones x)
-      → Meets s room (rowCount m k u x) i 8 i
+      → Meets s room (rowCount m k u x) i (refusalAt 8 i)
   -- "7: a row doesn't rise above the one before", "after the row's last cell"
-  not-rising : {i m k u x c p q : ℕ} → below (codes (ones x) s q) (codes (ones x) s p) ≡ false → Meets s room (cells m k u x c (rowAt q) p 0) i 7 p
+  not-rising : {i m k u x c p q : ℕ} → below (codes (ones x) s q) (codes (ones x) s p) ≡ false → Meets s room (cells m k u x c (rowAt q) p 0) i (refusalAt 7 p)
   -- "9: bytes after the last table"
-  surplus : {i m u : ℕ} → i < length s → Meets s room (table m 0 u) i 9 i
+  surplus : {i m u : ℕ} → i < length s → Meets s room (table m 0 u) i (refusalAt 9 i)
 
 -- The reading comes to what is due at a place: nothing before it is at fault.
 pub data Reaches (s : List ℕ) (room : ℕ) : Due → ℕ → Type 0 where
@@ -118,8 +119,8 @@ pub data Reaches (s : List ℕ) (room : ℕ) : Due → ℕ → Type 0 where
   on : {d e : Due} {i j : ℕ} → Reaches s room d i → Passes s room d i e j → Reaches s room e j
 
 -- "The first fault in reading order": its condition holds, and no earlier one does.
-abbrev pub FirstFault : List ℕ → ℕ → ℕ → ℕ → Type 0
-FirstFault s room k p = (d : Due) × (i : ℕ) × Reaches s room d i × Meets s room d i k p
+abbrev pub FirstFault : List ℕ → ℕ → Fault → Type 0
+FirstFault s room f = (d : Due) × (i : ℕ) × Reaches s room d i × Meets s room d i f
 
 -- The reading comes to the end behind the last table, and nothing follows.
 abbrev pub ReadWhole : List ℕ → ℕ → Type 0
@@ -129,10 +130,10 @@ ReadWhole s room = (m : ℕ) × (u : ℕ) × (i : ℕ) × Reaches s room (table 
 
 -- Of a load of the bytes s into `room` cells.
 pub record LoadExact (s : List ℕ) (room : ℕ) : Type 0 where
-  pub refuses : (k p : ℕ) → (scanOf s room .verdict ≡ Refused k p) ↔ FirstFault s room k p
+  pub refuses : (f : Fault) → (scanOf s room .verdict ≡ Refused f) ↔ FirstFault s room f
   pub accepts : (scanOf s room .verdict ≡ Good) ↔ ReadWhole s room
 
 -- Of the C door, which "assumes 8,192 cells of room".
 pub record CheckExact (s : List ℕ) : Type 0 where
-  pub refuses : (k p : ℕ) → k < 32 → 0 < k → (checkOf s ≡ p * 32 + k) ↔ FirstFault s mostCells k p
+  pub refuses : (k p : ℕ) → k < 32 → 0 < k → (checkOf s ≡ p * 32 + k) ↔ FirstFault s mostCells (refusalAt k p)
   pub accepts : (checkOf s ≡ 0) ↔ ReadWhole s mostCells

@@ -5,10 +5,10 @@ use mathlib.Core.Path.{_≡_}
 use mathlib.Core.Bool.{Bool}
 use mathlib.Core.List.{List}
 use Rattle.tables.specs.declared.Catalogue.{Catalogue}
-use Rattle.image.specs.declared.Loaded.{Loaded}
-use Rattle.image.specs.declared.Written.{Written}
-use Rattle.image.specs.Load.{Loads}
-use Rattle.image.specs.Write.{Writes}
+use Rattle.loader.specs.declared.Loaded.{Loaded}
+use Rattle.writer.specs.declared.Written.{Written}
+use Rattle.loader.specs.Load.{Loads}
+use Rattle.writer.specs.Write.{Writes}
 use Rattle.door.specs.Door.{Checks}
 use Rattle.padding.specs.Covering.{Covers}
 use Rattle.stream.specs.declared.StreamRecord.{StreamRecord}
@@ -18,9 +18,12 @@ use Rattle.stream.specs.declared.HoldingRecord.{HoldingRecord}
 use Rattle.stream.specs.declared.HoldingOpenAnswer.{HoldingOpenAnswer}
 use Rattle.stream.specs.declared.HoldingStepAnswer.{HoldingStepAnswer}
 use Rattle.stream.specs.Promises.{Opens, Steps, OpensHolding, StepsHolding}
+use Rattle.hub.specs.declared.ListVerdict.{ListVerdict}
+use Rattle.hub.specs.Promises.{ChecksList}
 use Rattle.harbour.specs.declared.NextAnswer.{NextAnswer}
 use Rattle.harbour.specs.Answers.{Nexts, NextsHolding}
 use Rattle.abi.specs.Calls.{LoadCall, WriteCall, CoversCall}
+use Rattle.abi.specs.Lists.{ListCall}
 use Rattle.abi.specs.Streams.{OpenCall, NextCall, OpenHoldingCall, NextHoldingCall}
 
 -- One field for each public call: two outcomes that meet its promise are one.
@@ -52,6 +55,7 @@ pub record OneOutcome : Type 0 where
       → NextsHolding cat cells keys left right s b row r q ks ls rs w → NextsHolding cat cells keys left right s b row r′ q′ ks′ ls′ rs′ w′
       → (r ≡ r′) × (q ≡ q′) × (ks ≡ ks′) × (ls ≡ ls′) × (rs ≡ rs′) × (w ≡ w′)
   pub covers : (first second : List ℕ) (r r′ : Bool) → Covers first second r → Covers first second r′ → r ≡ r′
+  pub «check_list» : (cat : Catalogue) (cells words : List ℕ) (r r′ : ListVerdict) → ChecksList cat cells words r → ChecksList cat cells words r′ → r ≡ r′
   pub check : (s : List ℕ) (r r′ : ℕ) → Checks s r → Checks s r′ → r ≡ r′
   -- The calls for C.
   pub «harbour_load» : (image cells words : List ℕ) (r r′ : ℕ) (cs ws cs′ ws′ : List ℕ)
@@ -76,3 +80,5 @@ pub record OneOutcome : Type 0 where
       → NextHoldingCall catalogue cells keys left right words b row result r′ ks′ ls′ rs′ ws′ w′ res′
       → (r ≡ r′) × (ks ≡ ks′) × (ls ≡ ls′) × (rs ≡ rs′) × (ws ≡ ws′) × (w ≡ w′) × (res ≡ res′)
   pub «harbour_covers» : (first second : List ℕ) (r r′ : ℕ) → CoversCall first second r → CoversCall first second r′ → r ≡ r′
+  pub «harbour_check_list» : (catalogue cells listed result : List ℕ) (r r′ : ℕ) (w w′ : List ℕ)
+      → ListCall catalogue cells listed result r w → ListCall catalogue cells listed result r′ w′ → (r ≡ r′) × (w ≡ w′)

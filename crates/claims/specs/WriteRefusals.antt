@@ -11,8 +11,8 @@ use Rattle.laws.specs.Lists.{part}
 use Rattle.tables.specs.declared.Catalogue.{Catalogue}
 use Rattle.tables.specs.Catalogues.{schemeOf, countOf, rowStart}
 use Rattle.tables.specs.Rows.{below}
-use Rattle.image.specs.declared.Written.the-variants.{Length, Refused}
-use Rattle.image.specs.Write.{imageOf, written}
+use Rattle.writer.specs.declared.Written.the-variants.{Length, Refused}
+use Rattle.writer.specs.Write.{imageOf, written}
 use Rattle.claims.specs.CatalogueRefusals.{SizesOut, BadScheme, ManyRows, ManyCells, GoodHead}
 
 module _ (cat : Catalogue) (cells : List ℕ) where

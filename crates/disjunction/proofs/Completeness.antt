@@ -11,14 +11,14 @@ use lib.ListN.{length}
 use lib.Seq.{getD-set-same, getD-set-other}
 use Rattle.laws.specs.Tests.{any}
 use Rattle.laws.proofs.TestLaws.{which, clash, and-split, and-join, any-some, any-of}
-use Rattle.disjunction.specs.Sets.{Tables, Symmetric, at, Member, size, Within, Row, Valid, JCC, Maximal}
+use Rattle.disjunction.specs.Sets.{Tables, Symmetric, at, Member, size, Within, Row, Valid, Connected, JCC, Maximal}
 use Rattle.disjunction.specs.Rule.{Place, rowIn, addRow, rows, member, absent, rowTest, extension, alone, start, trial}
-use Rattle.disjunction.proofs.RowSets.{member-lt, sets-equal, size-le, size-pos, size-set, within-refl, within-trans, within-member, within-add, add-within, member-row, alone-here, alone-only, alone-within}
-use Rattle.disjunction.proofs.RowTests.{member-iff, absent-iff}
-use Rattle.disjunction.proofs.Ways.{Crossing, cross}
+use Rattle.disjunction.proofs.RowSets.{member-lt, sets-equal, size-le, size-pos, size-set, within-refl, within-trans, within-member, within-add, add-within, add-cases, valid-add, member-row, alone-here, alone-only, alone-within}
+use Rattle.disjunction.proofs.RowTests.{member-iff, absent-iff, rowTest-iff}
+use Rattle.disjunction.proofs.Ways.{Crossing, cross, connected-add}
 use Rattle.disjunction.proofs.Growing.{Settled}
-use Rattle.disjunction.proofs.Extending.{crossing-yes, jcc-add, alone-jcc, extension-valid, Extended, extension-maximal}
-use Rattle.disjunction.proofs.Starting.{start-piece, start-valid, start-jcc, start-largest}
+use Rattle.disjunction.proofs.Extending.{crossing-yes, jcc-add, alone-jcc, extension-settled, Extended, extension-maximal}
+use Rattle.disjunction.proofs.Starting.{dropped-here, start-piece, start-valid, start-jcc, start-cases, start-largest}
 
 -- U has a row in a table where T has none, or it has not.
 outsider : (T U : List ℕ) → ((u : ℕ) × (at T u ≡ 0) × Member U u) ⊎ ((u : ℕ) → at T u ≡ 0 → at U u ≡ 0)
@@ -45,6 +45,13 @@ pub record Climbing (W : Tables) (B M T P : List ℕ) : Type 0 where
   pub low : Within P T
   pub high : Within P M
 
+-- A connected set that holds s, every other row of it consistent with s.
+pub record Around (W : Tables) (s : Place) (T : List ℕ) : Type 0 where
+  pub valid : Valid W T
+  pub has : at T (s .table) ≡ s .row
+  pub fits : (u : ℕ) → u ≢ s .table → Member T u → W .fits u (at T u) (s .table) (s .row) ≡ true
+  pub connected : Connected W T
+
 module _ (W : Tables) (S : Symmetric W) where
   -- ---- a trial
 
@@ -61,12 +68,40 @@ module _ (W : Tables) (S : Symmetric W) where
   trial-holds T s j r U k e f =
       within-trans U (start W T s) (trial W T s .rows) (start-largest W S T s r U k e f) (trial-extended T s j r .holds)
 
-  -- Of a set that is only valid, as in a damaged store.
-  pub trial-valid : (T : List ℕ) (s : Place) → Valid W T → Row W (s .table) (s .row)
-      → Settled (rowTest W) (rows W) (Valid W) (W .n) (start W T s) (trial W T s)
+  -- On a set that is only valid, as in a damaged store: the rounds keep every other row consistent with s.
+  start-around : (T : List ℕ) (s : Place) → Valid W T → Row W (s .table) (s .row) → Around W s (start W T s)
+  start-around T s v r =
+      let p = start-piece W S T s r in
+      record {
+        valid = start-valid W S T s v r;
+        has = sym (p .within (s .table) (p .has)) ∙ dropped-here W T s (r .table);
+        fits = λ u d m. ⊎-elim (λ x. absurd (d (x .0))) (λ x. rw (x .0) (x .1)) (start-cases W S T s r u m);
+        connected = p .connected;
+      }
+
+  around-add : (s : Place) → Row W (s .table) (s .row) → (T : List ℕ) (p : Place) → Around W s T → Row W (p .table) (p .row) → rowTest W T p ≡ true
+      → Around W s (addRow T p)
+  around-add s q T p a r e =
+      let h = rowTest-iff W T p (a .valid .long) .0 e in
+      let l : p .table < length T = omega (arith, r .table, a .valid .long) in
+      let m : Member T (s .table) = omega (arith, a .has, q .low) in
+      record {
+        valid = valid-add W T p (a .valid) r;
+        has = add-within T p (h .absent) (s .table) m ∙ a .has;
+        fits = λ u d n.
+            ⊎-elim
+            (λ x. rw (x .1, x .0) (S .fit (p .table) (p .row) (s .table) (s .row) ∙ rw (a .has) at (h .agrees (s .table) m)))
+            (λ x. rw (x .1) (a .fits u d (rw (x .1) at n)))
+            (add-cases T p u l);
+        connected = connected-add W S T p l (h .absent) (h .near) (a .connected);
+      }
+
+  pub trial-around : (T : List ℕ) (s : Place) → Valid W T → Row W (s .table) (s .row)
+      → Settled (rowTest W) (rows W) (Around W s) (W .n) (start W T s) (trial W T s)
   unfolding trial
-  trial-valid T s v r =
-      extension-valid W (start W T s) (start-valid W S T s v r) (size-pos (start W T s) (s .table) (start-piece W S T s r .has))
+  trial-around T s v r =
+      extension-settled W (Around W s) (λ U k. k .valid .long) (around-add s r) (start W T s) (start-around T s v r)
+      (size-pos (start W T s) (s .table) (start-piece W S T s r .has))
 
   -- Every row stands in a maximal set.
   pub row-stands : (s : Place) → Row W (s .table) (s .row) → Maximal W (extension W (alone W s) .rows) × (at (extension W (alone W s) .rows) (s .table) ≡ s .row)

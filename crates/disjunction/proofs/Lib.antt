@@ -7,6 +7,7 @@ pub mod Extending
 pub mod Pieces
 pub mod Starting
 pub mod Completeness
+pub mod StandingLaws
 pub mod CellLaws
 pub mod AskedLaws
 pub mod KeepingLaws

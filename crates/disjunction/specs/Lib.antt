@@ -3,3 +3,4 @@ pub mod Rule
 pub mod Cells
 pub mod Asked
 pub mod Keeping
+pub mod Standing

@@ -4,7 +4,7 @@ use Prim.Native.Nat.{ℕ}
 use mathlib.Core.Path.{_≡_}
 use mathlib.Core.List.{List}
 use Rattle.tables.specs.Sizes.{mostCells}
-use Rattle.image.specs.Load.{scanOf}
+use Rattle.loader.specs.Load.{scanOf}
 use Rattle.verdicts.specs.Number.{doorNumber}
 
 -- The door's answer to the bytes of an image.

@@ -7,7 +7,7 @@ ghost use Rattle.door.specs.Door.{Checks};
 pub extern "C" fn harbour_check(image: &[u8]) -> u64
     ensures { λ r. ⌜ Checks (now (image .entry)) r ⌝ }
 {
-    let r = image::scan(image, 8192);
+    let r = loader::scan(image, 8192);
     let verdict = r.verdict;
     verdicts::number_of(verdict)
 }

@@ -1,13 +1,15 @@
-// The public calls of the library: load and write an image, open a stream and move it on, and ask whether one padded row covers another.
+// The public calls of the library: load and write an image, open a stream and move it on, check a list of sets, and ask whether one padded row covers another.
 // None asks anything of its caller, and each promise stands here once: one outcome for every input, refusals too.
 ghost use Rattle.padding.specs.Covering.{Covers};
-ghost use Rattle.image.specs.Load.{Loads};
-ghost use Rattle.image.specs.Write.{Writes};
+ghost use Rattle.loader.specs.Load.{Loads};
+ghost use Rattle.writer.specs.Write.{Writes};
 ghost use Rattle.stream.specs.Promises.{Opens, Steps, OpensHolding, StepsHolding};
 ghost use Rattle.harbour.specs.Answers.{Nexts, NextsHolding};
-pub use image::Loaded;
-pub use image::Verdict;
-pub use image::Written;
+ghost use Rattle.hub.specs.Promises.{ChecksList};
+pub use hub::ListVerdict;
+pub use loader::Fault;
+pub use loader::Loaded;
+pub use loader::Verdict;
 pub use stream::Answer;
 pub use stream::HoldingOpenAnswer;
 pub use stream::HoldingRecord;
@@ -16,6 +18,7 @@ pub use stream::OpenAnswer;
 pub use stream::StepAnswer;
 pub use stream::StreamRecord;
 pub use tables::Catalogue;
+pub use writer::Written;
 
 // What the thin call answers: the answer, the key of a set (else 0), its trials, row tests and looks.
 // The record is not in it: the call has moved it on where it lies.
@@ -32,7 +35,7 @@ pub struct NextAnswer {
 pub fn load(image: &[u8], cells: &mut [u64]) -> Loaded
     ensures { λ r. ⌜ Loads (now (image .entry)) (now (cells .entry)) r (now (cells .exit)) ⌝ }
 {
-    image::load(image, cells)
+    loader::load(image, cells)
 }
 
 // Writes the image of the tables into the front of the lent bytes, and gives its length.
@@ -40,7 +43,7 @@ pub fn load(image: &[u8], cells: &mut [u64]) -> Loaded
 pub fn write(cat: Catalogue, cells: &[u64], out: &mut [u8]) -> Written
     ensures { λ r. ⌜ Writes cat (now (cells .entry)) (now (out .entry)) r (now (out .exit)) ⌝ }
 {
-    image::write(cat, cells, out)
+    writer::write(cat, cells, out)
 }
 
 // Opens a stream on the tables, in the store that the three slices make.
@@ -173,4 +176,12 @@ pub fn covers(first: &[u64], second: &[u64]) -> bool
     ensures { λ r. ⌜ Covers (now (first .entry)) (now (second .entry)) r ⌝ }
 {
     padding::covers(first, second)
+}
+
+// Checks a list of keys, as the regional hub sends it: whether it holds every maximal set once and nothing else, in any order.
+// A no names the first entry that is none or a repeat, or else the first set not listed that the trials over the listed sets reach.
+pub fn check_list(cat: Catalogue, cells: &[u64], listed: &[u64]) -> ListVerdict
+    ensures { λ r. ⌜ ChecksList cat (now (cells .entry)) (now (listed .entry)) r ⌝ }
+{
+    hub::check_list(cat, cells, listed)
 }

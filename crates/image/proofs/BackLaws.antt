@@ -15,50 +15,51 @@ use Rattle.numbers.specs.Numbers.{encode, decode}
 use Rattle.numbers.proofs.RoundTrip.{encode-decode}
 use Rattle.tables.specs.declared.Catalogue.{Catalogue}
 use Rattle.tables.specs.Catalogues.{schemeOf, countOf, firstCell}
-use Rattle.tables.specs.Sizes.{mostAttributes, mostTables}
+use Rattle.tables.specs.Sizes.{mostAttributes, mostTables, version}
 use Rattle.tables.specs.Rows.{below}
 use Rattle.tables.specs.Checks.{outside, tableFault}
 use Rattle.tables.proofs.CatalogueLaws.{cells-next}
 use Rattle.tables.proofs.CheckLaws.{faultAt, table-count, fault-clear, InRange}
-use Rattle.image.specs.declared.Walk.the-variants.{To}
-use Rattle.image.specs.declared.Field.{Field}
-use Rattle.image.specs.declared.Field.the-variants.{Value, FieldFault}
-use Rattle.image.specs.declared.Entry.{Entry}
-use Rattle.image.specs.declared.Entry.the-variants.{Table, TableFault}
-use Rattle.image.specs.declared.Loaded.{Loaded}
-use Rattle.image.specs.Reading.{runEnd, codes, rowsFrom}
-use Rattle.image.specs.Load.{version, firstTable, fieldAt, onField, tableAt, onEntry, refused, tablesFrom, scanOf, tablesCodes}
-use Rattle.image.specs.Write.{encodes, cellsOf, tablesImage, tooHigh, rowsFault, tablesRefusal}
+use Rattle.loader.specs.declared.Walk.the-variants.{To}
+use Rattle.loader.specs.declared.Fault.{Fault}
+use Rattle.loader.specs.declared.Field.{Field}
+use Rattle.loader.specs.declared.Field.the-variants.{Value, FieldFault}
+use Rattle.loader.specs.declared.Entry.{Entry}
+use Rattle.loader.specs.declared.Entry.the-variants.{Table, TableFault}
+use Rattle.loader.specs.declared.Loaded.{Loaded}
+use Rattle.loader.specs.Reading.{refusalAt, runEnd, codes, rowsFrom}
+use Rattle.loader.specs.Load.{firstTable, fieldAt, onField, tableAt, onEntry, refused, tablesFrom, scanOf, tablesCodes}
+use Rattle.writer.specs.Write.{encodes, cellsOf, tablesImage, tooHigh, rowsFault, tablesRefusal}
 use Rattle.image.specs.RoundTrip.{front, trimmed, found}
-use Rattle.image.proofs.LoadLaws.{GoodTable, good-table}
-use Rattle.image.proofs.AcceptLaws.{rowsAt, refusal-none, refusal-more}
-use Rattle.image.proofs.ReadingLaws.{number-was, run-was, run-add, rows-was, rows-run, row-cells}
+use Rattle.loader.proofs.LoadLaws.{GoodTable, good-table}
+use Rattle.writer.proofs.AcceptLaws.{rowsAt, refusal-none, refusal-more}
+use Rattle.loader.proofs.ReadingLaws.{number-was, run-was, run-add, rows-was, rows-run, row-cells}
 use Rattle.image.proofs.ThereLaws.{part-stands, or-clear, one-byte, table-codes}
 
 -- ---- an answer that is no refusal came by the way that goes on
 
 module _ {A : Type 0} (a : A) where
-  entry-was : {P : Type 0} (d : Entry) (go : ℕ → ℕ → ℕ → ℕ → A) (refuse : ℕ → ℕ → A) → ((k p : ℕ) → refuse k p ≡ a → ⊥) → onEntry d go refuse ≡ a
+  entry-was : {P : Type 0} (d : Entry) (go : ℕ → ℕ → ℕ → ℕ → A) (refuse : Fault → A) → ((k : Fault) → refuse k ≡ a → ⊥) → onEntry d go refuse ≡ a
       → ((x c u e : ℕ) → d ≡ Table x c u e → go x c u e ≡ a → P) → P
   entry-was (Table x c u e) go refuse z q f = f x c u e refl q
-  entry-was (TableFault k p) go refuse z q f = absurd (z k p q)
+  entry-was (TableFault k) go refuse z q f = absurd (z k q)
 
   cond-was : (b : Bool) (x y : A) → (x ≡ a → ⊥) → cond b x y ≡ a → (b ≡ false) × (y ≡ a)
   cond-was true x y z e = absurd (z e)
   cond-was false x y z e = (refl, e)
 
-no-field : (k p x n : ℕ) → FieldFault k p ≡ Value x n → ⊥
-no-field k p x n q = let z : _≡_ {A = ℕ} 0 1 = cc in omega arith
+no-field : (f : Fault) (x n : ℕ) → FieldFault f ≡ Value x n → ⊥
+no-field f x n q = let z : _≡_ {A = ℕ} 0 1 = cc in omega arith
 
-no-good : (k p : ℕ) (cat : Catalogue) → refused k p ≡ found cat → ⊥
-no-good k p cat q =
+no-good : (f : Fault) (cat : Catalogue) → refused f ≡ found cat → ⊥
+no-good f cat q =
     let v = ap (λ (l : Loaded). l .verdict) q in
     let z : _≡_ {A = ℕ} 0 1 = cc in
     omega arith
 
 field-was : {P : Type 0} (d : Field) (go : ℕ → ℕ → Loaded) (cat : Catalogue) → onField d go ≡ found cat → ((x n : ℕ) → d ≡ Value x n → go x n ≡ found cat → P) → P
 field-was (Value x n) go cat e f = f x n refl e
-field-was (FieldFault k p) go cat e f = absurd (no-good k p cat e)
+field-was (FieldFault k) go cat e f = absurd (no-good k cat e)
 
 -- ---- numbers one after the other
 
@@ -159,14 +160,14 @@ module _ (s : List ℕ) (room m n : ℕ) (cat : Catalogue) where
       → (length s ≤ i) × (cat ≡ record { m = m; n = n; schemes = xs; rows = cs })
   unfolding tablesFrom
   end-was t used xs cs i q =
-      let c = cond-was (found cat) (ltb i (length s)) (refused 9 i) (found (record { m = m; n = n; schemes = xs; rows = cs })) (no-good 9 i cat) q in
+      let c = cond-was (found cat) (ltb i (length s)) (refused (refusalAt 9 i)) (found (record { m = m; n = n; schemes = xs; rows = cs })) (no-good (refusalAt 9 i) cat) q in
       (ltb-false i (length s) (c .0), sym (ap (λ (l : Loaded). l .catalogue) (c .1)))
 
   more-was : {P : Type 0} (k t used : ℕ) (xs cs : List ℕ) (i : ℕ) → tablesFrom (suc k) s room m n t used xs cs i ≡ found cat
       → ((x c u e : ℕ) → tableAt s room m used i ≡ Table x c u e → tablesFrom k s room m n (t + 1) u (set xs t x) (set cs t c) e ≡ found cat → P) → P
   unfolding tablesFrom
   more-was k t used xs cs i q f =
-      entry-was (found cat) (tableAt s room m used i) (λ x c u e. tablesFrom k s room m n (t + 1) u (set xs t x) (set cs t c) e) refused (λ f p. no-good f p cat) q f
+      entry-was (found cat) (tableAt s room m used i) (λ x c u e. tablesFrom k s room m n (t + 1) u (set xs t x) (set cs t c) e) refused (λ f. no-good f cat) q f
 
   keeps : (k t used : ℕ) (xs cs : List ℕ) (i : ℕ) → tablesFrom k s room m n t used xs cs i ≡ found cat → Keeps cat m n t k xs cs
   keeps zero t used xs cs i q =
@@ -286,9 +287,9 @@ inside-was low high x e =
 field-back : (s : List ℕ) → ((k : ℕ) → getD s k 0 < 256) → (i low high f x n : ℕ) → high < 128 → fieldAt s i low high f ≡ Value x n → FieldBack s i low high x n
 unfolding fieldAt
 field-back s by i low high f x n h e =
-    number-was (Value x n) (decode s i) (λ y k. cond (outside low high y) (FieldFault f i) (Value y k)) (λ k. FieldFault k i) (λ k. no-field k i x n) e
+    number-was (Value x n) (decode s i) (λ y k. cond (outside low high y) (FieldFault (refusalAt f i)) (Value y k)) (λ k. FieldFault (refusalAt k i)) (λ k. no-field (refusalAt k i) x n) e
     (λ y k d g.
-    let c = cond-was (Value x n) (outside low high y) (FieldFault f i) (Value y k) (no-field f i x n) g in
+    let c = cond-was (Value x n) (outside low high y) (FieldFault (refusalAt f i)) (Value y k) (no-field (refusalAt f i) x n) g in
     let v : Value y k ≡ Value x n = c .1 in
     let ex : y ≡ x = cc in
     let en : k ≡ n = cc in

@@ -5,8 +5,8 @@ use Rattle.numbers.specs.Numbers.{encode, decode}
 use Rattle.tables.specs.Catalogues.{rowsBefore}
 use Rattle.tables.specs.Rows.{below}
 use Rattle.tables.specs.Checks.{badScheme, countFault}
-use Rattle.image.specs.Reading.{runEnd, codes, rowsFrom}
-use Rattle.image.specs.Load.{fieldAt, countAt, tableAt, tablesFrom, scanOf, tablesCodes}
+use Rattle.loader.specs.Reading.{runEnd, codes, rowsFrom}
+use Rattle.loader.specs.Load.{fieldAt, countAt, tableAt, tablesFrom, scanOf, tablesCodes}
 use Rattle.image.specs.Edges.{NumberEdges, ImageEdges}
 
 pub number-edges : NumberEdges

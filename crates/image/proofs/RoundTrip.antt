@@ -11,19 +11,19 @@ use Rattle.laws.specs.Lists.{put}
 use Rattle.laws.proofs.ListLaws.{length-put}
 use Rattle.numbers.specs.Numbers.{encode}
 use Rattle.tables.specs.declared.Catalogue.{Catalogue}
-use Rattle.tables.specs.Sizes.{mostAttributes, mostTables}
+use Rattle.tables.specs.Sizes.{mostAttributes, mostTables, version}
 use Rattle.tables.specs.Catalogues.{firstCell}
 use Rattle.tables.specs.Checks.{firstOf, sizeFault, catalogueFault, Lawful}
 use Rattle.tables.proofs.CheckLaws.{first-none, first-clear, inside, size-good, lawful-fault}
-use Rattle.image.specs.declared.Verdict.{Verdict}
-use Rattle.image.specs.declared.Verdict.the-variants.{Good}
-use Rattle.image.specs.declared.Loaded.{Loaded}
-use Rattle.image.specs.declared.Written.{Written}
-use Rattle.image.specs.declared.Written.the-variants.{Length}
-use Rattle.image.specs.Load.{version, firstTable, scanOf, tablesCodes, cellsAfter, Loads}
-use Rattle.image.specs.Write.{tablesImage, imageOf, tablesRefusal, writeFault, Accepted, lengthFault, writtenOf, written, Writes}
+use Rattle.loader.specs.declared.Verdict.{Verdict}
+use Rattle.loader.specs.declared.Verdict.the-variants.{Good}
+use Rattle.loader.specs.declared.Loaded.{Loaded}
+use Rattle.writer.specs.declared.Written.{Written}
+use Rattle.writer.specs.declared.Written.the-variants.{Length}
+use Rattle.loader.specs.Load.{firstTable, scanOf, tablesCodes, cellsAfter, Loads}
+use Rattle.writer.specs.Write.{tablesImage, imageOf, tablesRefusal, writeFault, Accepted, lengthFault, writtenOf, written, Writes}
 use Rattle.image.specs.RoundTrip.{trimmed, found, loadedCells}
-use Rattle.image.proofs.AcceptLaws.{fault-accepted, accepted-fault}
+use Rattle.writer.proofs.AcceptLaws.{fault-accepted, accepted-fault}
 use Rattle.image.proofs.ThereLaws.{scan-there, codes-there}
 use Rattle.image.proofs.BackLaws.{ScanBack, scan-back, tables-fit, tables-back}
 

@@ -21,17 +21,17 @@ use Rattle.numbers.proofs.EncodeLaws.{last-in, more-in, encode-last}
 use Rattle.numbers.proofs.RoundTrip.{decode-encode}
 use Rattle.tables.specs.declared.Catalogue.{Catalogue}
 use Rattle.tables.specs.Catalogues.{schemeOf, countOf, firstCell}
-use Rattle.tables.specs.Sizes.{mostAttributes, mostTables}
+use Rattle.tables.specs.Sizes.{mostAttributes, mostTables, version}
 use Rattle.tables.specs.Rows.{below}
 use Rattle.tables.proofs.CatalogueLaws.{cells-next, table-ends}
 use Rattle.tables.proofs.CheckLaws.{inside, scheme-good, count-good, Clear, InRange}
-use Rattle.image.specs.declared.Walk.the-variants.{To}
-use Rattle.image.specs.declared.Field.the-variants.{Value}
-use Rattle.image.specs.declared.Entry.the-variants.{Table}
-use Rattle.image.proofs.ReadingLaws.{row-cells}
-use Rattle.image.specs.Reading.{runEnd, codes, rowsFrom}
-use Rattle.image.specs.Load.{version, firstTable, fieldAt, countAt, tableAt, tablesFrom, scanOf, tablesCodes}
-use Rattle.image.specs.Write.{encodes, cellsOf, tablesImage, imageOf, tooHigh, rowsFault, Accepted}
+use Rattle.loader.specs.declared.Walk.the-variants.{To}
+use Rattle.loader.specs.declared.Field.the-variants.{Value}
+use Rattle.loader.specs.declared.Entry.the-variants.{Table}
+use Rattle.loader.proofs.ReadingLaws.{row-cells}
+use Rattle.loader.specs.Reading.{runEnd, codes, rowsFrom}
+use Rattle.loader.specs.Load.{firstTable, fieldAt, countAt, tableAt, tablesFrom, scanOf, tablesCodes}
+use Rattle.writer.specs.Write.{encodes, cellsOf, tablesImage, imageOf, tooHigh, rowsFault, Accepted}
 use Rattle.image.specs.RoundTrip.{front, trimmed, found}
 
 -- ---- lists

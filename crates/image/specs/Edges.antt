@@ -6,8 +6,9 @@ use Rattle.numbers.specs.declared.Reading.the-variants.{NumberFault}
 use Rattle.numbers.specs.Numbers.{encode, decode}
 use Rattle.tables.specs.Sizes.{mostCells}
 use Rattle.tables.specs.Catalogues.{total}
-use Rattle.image.specs.declared.Verdict.the-variants.{Good, Refused}
-use Rattle.image.specs.Load.{firstTable, scanOf, tablesCodes}
+use Rattle.loader.specs.declared.Verdict.the-variants.{Good, Refused}
+use Rattle.loader.specs.Reading.{refusalAt}
+use Rattle.loader.specs.Load.{firstTable, scanOf, tablesCodes}
 
 -- "Numbers: P 0 is `00`; P 127 is `7F`; P 128 is `80 01`; P 2^63 - 1 is `FF` eight times, then `7F`; P `80 00` gives 2".
 pub record NumberEdges : Type 0 where
@@ -26,6 +27,6 @@ pub record ImageEdges : Type 0 where
   pub one-row : scanOf (0x01 ∷ 0x01 ∷ 0x01 ∷ 0x01 ∷ 0x01 ∷ 0x00 ∷ []) mostCells .verdict ≡ Good
   pub one-in-all : total (scanOf (0x01 ∷ 0x01 ∷ 0x01 ∷ 0x01 ∷ 0x01 ∷ 0x00 ∷ []) mostCells .catalogue) ≡ 1
   pub null-row : tablesCodes 1 (0x01 ∷ 0x01 ∷ 0x01 ∷ 0x01 ∷ 0x01 ∷ 0x00 ∷ []) firstTable ≡ 0 ∷ []
-  pub high-scheme : scanOf (0x01 ∷ 0x01 ∷ 0x01 ∷ 0x02 ∷ []) mostCells .verdict ≡ Refused 5 3
-  pub equal-rows : scanOf (0x01 ∷ 0x01 ∷ 0x01 ∷ 0x01 ∷ 0x02 ∷ 0x05 ∷ 0x05 ∷ []) mostCells .verdict ≡ Refused 7 6
-  pub surplus : scanOf (0x01 ∷ 0x01 ∷ 0x01 ∷ 0x01 ∷ 0x00 ∷ 0x00 ∷ []) mostCells .verdict ≡ Refused 9 5
+  pub high-scheme : scanOf (0x01 ∷ 0x01 ∷ 0x01 ∷ 0x02 ∷ []) mostCells .verdict ≡ Refused (refusalAt 5 3)
+  pub equal-rows : scanOf (0x01 ∷ 0x01 ∷ 0x01 ∷ 0x01 ∷ 0x02 ∷ 0x05 ∷ 0x05 ∷ []) mostCells .verdict ≡ Refused (refusalAt 7 6)
+  pub surplus : scanOf (0x01 ∷ 0x01 ∷ 0x01 ∷ 0x01 ∷ 0x00 ∷ 0x00 ∷ []) mostCells .verdict ≡ Refused (refusalAt 9 5)

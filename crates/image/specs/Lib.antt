@@ -1,5 +1,2 @@
-pub mod Reading
-pub mod Load
-pub mod Write
 pub mod RoundTrip
 pub mod Edges

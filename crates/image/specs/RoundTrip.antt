@@ -5,9 +5,9 @@ use lib.ListN.{take, replicate}
 use Rattle.laws.specs.Lists.{put}
 use Rattle.tables.specs.declared.Catalogue.{Catalogue}
 use Rattle.tables.specs.Sizes.{mostTables}
-use Rattle.image.specs.declared.Verdict.the-variants.{Good}
-use Rattle.image.specs.declared.Loaded.{Loaded}
-use Rattle.image.specs.Load.{firstTable, tablesCodes}
+use Rattle.loader.specs.declared.Verdict.the-variants.{Good}
+use Rattle.loader.specs.declared.Loaded.{Loaded}
+use Rattle.loader.specs.Load.{firstTable, tablesCodes}
 
 -- The first n of eight entries; "entries from n on .. are 0".
 unfoldable pub front : ℕ → List ℕ → List ℕ

@@ -1,16 +1,19 @@
 // Callers of the public calls, one for each, that promise what they were promised and do nothing else.
-// They are here for the check: a public contract that loses its promise, or says less, is not enough for its caller here. Nothing else calls them.
-ghost use Rattle.image.specs.Load.{Loads};
-ghost use Rattle.image.specs.Write.{Writes};
+// They are here for the check: a public contract that loses its promise, or says less, is not enough for its caller here.
+ghost use Rattle.loader.specs.Load.{Loads};
+ghost use Rattle.writer.specs.Write.{Writes};
 ghost use Rattle.padding.specs.Covering.{Covers};
 ghost use Rattle.stream.specs.Promises.{Opens, Steps, OpensHolding, StepsHolding};
 ghost use Rattle.door.specs.Door.{Checks};
+ghost use Rattle.hub.specs.Promises.{ChecksList};
+ghost use Rattle.abi.specs.Lists.{ListCall};
 ghost use Rattle.abi.specs.Calls.{LoadCall, WriteCall, CoversCall};
 ghost use Rattle.abi.specs.Streams.{OpenCall, NextCall, OpenHoldingCall, NextHoldingCall};
 use harbour::Catalogue;
 use harbour::HoldingOpenAnswer;
 use harbour::HoldingRecord;
 use harbour::HoldingStepAnswer;
+use harbour::ListVerdict;
 use harbour::Loaded;
 use harbour::OpenAnswer;
 use harbour::StepAnswer;
@@ -208,4 +211,18 @@ pub fn covers_words(first: &[u64], second: &[u64]) -> u64
     ensures { λ r. ⌜ CoversCall (now (first .entry)) (now (second .entry)) r ⌝ }
 {
     abi::streams::harbour_covers(first, second)
+}
+
+// Calls `harbour::check_list`.
+pub fn check_list(cat: Catalogue, cells: &[u64], listed: &[u64]) -> ListVerdict
+    ensures { λ r. ⌜ ChecksList cat (now (cells .entry)) (now (listed .entry)) r ⌝ }
+{
+    harbour::check_list(cat, cells, listed)
+}
+
+// Calls `abi::lists::harbour_check_list`.
+pub fn check_list_words(catalogue: &[u64], cells: &[u64], listed: &[u64], result: &mut [u64]) -> u64
+    ensures { λ r. ⌜ ListCall (now (catalogue .entry)) (now (cells .entry)) (now (listed .entry)) (now (result .entry)) r (now (result .exit)) ⌝ }
+{
+    abi::lists::harbour_check_list(catalogue, cells, listed, result)
 }

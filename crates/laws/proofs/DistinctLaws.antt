@@ -1,12 +1,13 @@
--- Lists without repeats: two that hold the same things are equally long. Assumes nothing.
-use Prim.Native.Nat.{suc, _+_, _≤_}
+-- Lists without repeats: two that hold the same things are equally long; and what having none says of the places. Assumes nothing.
+use Prim.Native.Nat.{ℕ, zero, suc, _+_, _≤_, _<_}
 use native.Mathlib.Omega.{arith}
-use native.Mathlib.Nat.{le-antisymm}
+use native.Mathlib.Nat.{le-antisymm, not-suc-le-zero, le-of-suc-le-suc}
 use mathlib.Core.Path.{_≡_, refl, sym, ap, _∙_}
 use mathlib.Core.Logic.{_≢_, _⊎_, ⊎-elim, _↔_}
 use mathlib.Core.List.{List, [], _∷_, _++_, List·Memᴰ, List·Memᴰ·head, List·Memᴰ·tail, List·Memᴰ·cases-cons, List·Memᴰ·not-nil, List·Memᴰ·append-cases, List·Memᴰ·eq-of-singleton, Memᴰ·cast}
-use lib.ListN.{length}
+use lib.ListN.{length, getD}
 use Rattle.laws.specs.Distinct.{Distinct, none, more}
+use Rattle.laws.proofs.MemberLaws.{mem-at, at-mem}
 
 module _ {A : Type 0} where
   without : {x : A} {l : List A} → List·Memᴰ x l → List A
@@ -40,3 +41,18 @@ module _ {A : Type 0} where
       more
       (λ k. ⊎-elim (λ a. g a) (λ a. h (List·Memᴰ·head (sym (List·Memᴰ·eq-of-singleton a)))) (List·Memᴰ·append-cases l k))
       (distinct-end d (λ k. h (List·Memᴰ·tail k)))
+
+-- No two places hold the same, and back.
+module _ {A : Type 0} (d : A) where
+  pub distinct-at : (l : List A) → Distinct l → (i j : ℕ) → j < i → i < length l → getD l j d ≡ getD l i d → ⊥
+  distinct-at [] x i j b h e = absurd (not-suc-le-zero h)
+  distinct-at (y ∷ l) (more g x) zero j b h e = not-suc-le-zero b
+  distinct-at (y ∷ l) (more g x) (suc i) zero b h e = g (Memᴰ·cast e (mem-at l d i (le-of-suc-le-suc h)))
+  distinct-at (y ∷ l) (more g x) (suc i) (suc j) b h e = distinct-at l x i j (le-of-suc-le-suc b) (le-of-suc-le-suc h) e
+
+  pub distinct-by : (l : List A) → ((i j : ℕ) → j < i → i < length l → getD l j d ≡ getD l i d → ⊥) → Distinct l
+  distinct-by [] f = none
+  distinct-by (y ∷ l) f =
+      more {l = l}
+      (λ m. let (i, h, e) = at-mem d m in f (suc i) 0 (omega arith) (omega arith) e)
+      (distinct-by l (λ i j b h. f (suc i) (suc j) (omega arith) (omega arith)))

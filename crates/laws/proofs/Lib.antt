@@ -1,4 +1,5 @@
 pub mod ListLaws
+pub mod PlacedLaws
 pub mod TestLaws
 pub mod MemberLaws
 pub mod DistinctLaws

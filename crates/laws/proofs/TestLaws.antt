@@ -3,9 +3,9 @@ use Prim.Native.Nat.{ℕ, zero, suc, _<_}
 use native.Mathlib.Omega.{arith}
 use native.Mathlib.Nat.{eq-or-lt-of-le, le-of-suc-le-suc, not-suc-le-zero}
 use mathlib.Core.Path.{_≡_, refl, sym, _∙_}
-use mathlib.Core.Logic.{_⊎_, inl, inr, ⊎-elim}
+use mathlib.Core.Logic.{_⊎_, inl, inr, ⊎-elim, _↔_}
 use mathlib.Core.Bool.{Bool, true, false, _&&_, _||_, true≢false}
-use Rattle.laws.specs.Tests.{any, all}
+use Rattle.laws.specs.Tests.{any, all, isYes, lowest, without, lowestBelow}
 
 pub which : (b : Bool) → (b ≡ true) ⊎ (b ≡ false)
 which true = inl refl
@@ -21,6 +21,12 @@ not-yes b h = ⊎-elim (λ e. absurd (h e)) (λ e. e) (which b)
 pub iff-eq : (a b : Bool) → (a ≡ true → b ≡ true) → (b ≡ true → a ≡ true) → a ≡ b
 iff-eq true b f g = sym (f refl)
 iff-eq false b f g = sym (not-yes b (λ e. clash (g e) refl))
+
+-- A decision as a test says what was decided.
+pub yes-iff : {A : Type 0} → (d : Dec A) → (isYes d ≡ true) ↔ A
+unfolding isYes
+yes-iff (yes a) = (λ e. a, λ b. refl)
+yes-iff (no h) = (λ e. absurd (clash e refl), λ a. absurd (h a))
 
 pub and-split : (a b : Bool) → (a && b) ≡ true → (a ≡ true) × (b ≡ true)
 and-split true b h = (refl, h)
@@ -99,3 +105,15 @@ first-below (suc k) p = go (first-below k p) (which (p k))
     go (inl (t, l, y, n)) b = inl (t, omega arith, y, n)
     go (inr n) (inl y) = inl (k, omega arith, y, n)
     go (inr n) (inr f) = inr (λ u l. ⊎-elim (λ e. rw e f) (λ q. n u q) (below-suc l))
+
+-- What `lowestBelow` names, from the answers of the tests in order.
+pub lowest-none : (k : ℕ) (p : ℕ → Bool) → ((u : ℕ) → u < k → p u ≡ false) → lowestBelow k p ≡ without
+unfolding lowestBelow
+lowest-none zero p n = refl
+lowest-none (suc k) p n = rw (lowest-none k p (λ u l. n u (omega arith)), n k (omega arith))
+
+pub lowest-at : (k : ℕ) (p : ℕ → Bool) (i : ℕ) → i < k → p i ≡ true → ((u : ℕ) → u < i → p u ≡ false) → lowestBelow k p ≡ lowest i
+unfolding lowestBelow
+lowest-at zero p i l y n = absurd (not-suc-le-zero l)
+lowest-at (suc k) p i l y n =
+    ⊎-elim (λ (e : i ≡ k). rw (lowest-none k p (rw e at n), rw e at y, e)) (λ (b : i < k). rw (lowest-at k p i b y n)) (below-suc l)

@@ -15,7 +15,7 @@ use Rattle.tables.specs.Catalogues.{total}
 use Rattle.disjunction.specs.Rule.{Place, rowAt, Grown, extension, alone, trial}
 use Rattle.disjunction.specs.Asked.{Asked, everySet, wanted}
 use Rattle.disjunction.proofs.RowOrder.{rowAt-row}
-use Rattle.disjunction.proofs.Completeness.{trial-valid}
+use Rattle.disjunction.proofs.Completeness.{trial-around}
 use Rattle.rows.specs.World.{worldOf, setOf, placeOf}
 use Rattle.rows.specs.Named.{named}
 use Rattle.rows.proofs.WorldLaws.{world-symmetric, rows-total, row-place}
@@ -179,7 +179,7 @@ module _ (cat : Catalogue) (cells : List ℕ) where
       byKey true e =
           let W = worldOf cat cells in
           let r = rowAt-row W (q .next) (rw (rows-total cat cells) h) in
-          let v = trial-valid W (world-symmetric cat cells) (setOf cat k) (rowAt W (q .next)) (named-valid cat cells k (named-iff cat k .0 e)) r in
+          let v = trial-around W (world-symmetric cat cells) (setOf cat k) (rowAt W (q .next)) (named-valid cat cells k (named-iff cat k .0 e)) r in
           byWant (wanted (q .asked) (trialDue cat cells q .rows)) (rw (rows-total cat cells) at (v .few))
 
   -- A trial that was done leaves a stream that fits.

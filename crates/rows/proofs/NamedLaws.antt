@@ -7,7 +7,8 @@ use mathlib.Core.Path.{_≡_, sym, ap, subst, _∙_}
 use mathlib.Core.Logic.{_↔_, ⊎-elim}
 use mathlib.Core.Bool.{Bool, true, false, not, _||_}
 use mathlib.Core.List.{List}
-use lib.ListN.{getD, List·getD-eq-default}
+use lib.ListN.{getD, set, replicate, length-replicate, getD-replicate, List·getD-eq-default}
+use lib.Seq.{ext-getD}
 use lib.Dec.{ltb, eqb}
 use lib.Pow.{pow-pos, pow-mono, split}
 use borrow.Author.Tests.{lt-ltb, ltb-true, le-leb, leb-true, le-ltb, eq-eqb, eqb-true, not-true}
@@ -15,12 +16,13 @@ use Rattle.laws.proofs.TestLaws.{clash, not-yes, or-case, or-left, or-right, an
 use Rattle.words.proofs.WordLaws.{cut}
 use Rattle.keys.specs.Keys.{bitsPerRow, mostTables, rowOf, withRow, keyOf, rowsIn, Small}
 use Rattle.keys.proofs.KeyLaws.{below, row-zero, row-same, row-other, rows-eq, with-lt}
-use Rattle.keys.proofs.SetLaws.{in-length, in-at, in-past, in-some, in-key, key-in, key-row, key-lt}
+use Rattle.keys.proofs.SetLaws.{in-length, in-at, in-past, in-some, in-with, in-key, key-in, key-row, key-lt}
 use Rattle.tables.specs.declared.Catalogue.{Catalogue}
 use Rattle.tables.specs.Catalogues.{countOf, total, rowAt}
 use Rattle.tables.specs.Checks.{Lawful}
 use Rattle.disjunction.specs.Sets.{at, Member, Valid, Row, size}
-use Rattle.disjunction.specs.Rule.{Place}
+use Rattle.disjunction.specs.Rule as rule
+use Rattle.disjunction.specs.Rule.{Place, alone}
 use Rattle.disjunction.proofs.RowOrder.{rowAt-row}
 use Rattle.disjunction.proofs.RowSets.{size-pos}
 use Rattle.rows.specs.World.{worldOf, setOf}
@@ -195,3 +197,38 @@ module _ (cat : Catalogue) where
   -- A row that is there has room in a key.
   pub row-small : (lent : ℕ) → Lawful cat lent → (t r : ℕ) → There cat t r → r < 2 ^ bitsPerRow
   row-small lent L t r h = omega (arith, h .high, L .rows t (h .table))
+
+-- ---- one row alone
+
+-- The key of no row is no set's, and its set is empty.
+empty-set : (cat : Catalogue) → setOf cat 0 ≡ replicate (cat .n) 0
+empty-set cat =
+    ext-getD 0 (setOf cat 0) (replicate (cat .n) 0) (in-length bitsPerRow (cat .n) 0 ∙ sym (length-replicate (cat .n) 0))
+    (λ t h. rw (in-at bitsPerRow (cat .n) 0 t (rw (in-length bitsPerRow (cat .n) 0) at h), row-zero bitsPerRow t, getD-replicate {A = ℕ} (cat .n) t 0 0 (rw (in-length bitsPerRow (cat .n) 0) at h)))
+
+-- A row put into it is that row alone,
+pub alone-set : (cat : Catalogue) (cells : List ℕ) (t r : ℕ) → There cat t r → r < 2 ^ bitsPerRow
+    → setOf cat (withRow bitsPerRow 0 t r) ≡ alone (worldOf cat cells) (record { table = t; row = r })
+unfolding alone
+alone-set cat cells t r h s = in-with bitsPerRow (cat .n) 0 t r (h .table) s ∙ ap (λ (T : List ℕ). set T t r) (empty-set cat)
+
+-- and names it.
+pub alone-named : (cat : Catalogue) (t r : ℕ) → There cat t r → r < 2 ^ bitsPerRow → Named cat (withRow bitsPerRow 0 t r)
+alone-named cat t r h s =
+    record {
+      some = key-some bitsPerRow (withRow bitsPerRow 0 t r) t (rw (row-same bitsPerRow 0 t r s) (h .low));
+      low = with-lt bitsPerRow (cat .n) 0 t r (h .table) s (pow-pos (bitsPerRow * cat .n));
+      rows = λ u l. go u (ℕ-discrete u t);
+    }
+  where
+    go : (u : ℕ) → Dec (u ≡ t) → rowOf bitsPerRow (withRow bitsPerRow 0 t r) u ≤ countOf cat u
+    go u (yes e) = rw (e, row-same bitsPerRow 0 t r s) (h .high)
+    go u (no g) = rw (row-other bitsPerRow 0 t r u s g, row-zero bitsPerRow u) (omega arith)
+
+-- The first row alone, as the rule has it.
+pub first-alone : (cat : Catalogue) (cells : List ℕ) (lent : ℕ) → Lawful cat lent → 0 < total cat
+    → setOf cat (withRow bitsPerRow 0 (rowAt cat 0 .table) (rowAt cat 0 .row)) ≡ alone (worldOf cat cells) (rule.rowAt (worldOf cat cells) 0)
+first-alone cat cells lent L h =
+    let x = place-there cat cells 0 h in
+    let s = row-small cat lent L _ _ x in
+    alone-set cat cells _ _ x s ∙ ap (alone (worldOf cat cells)) (sym (row-place cat cells 0 h))

@@ -18,15 +18,10 @@ use Rattle.store.specs.Store.{Store, roomIn, linkOf, searchOf, filed, na
 use Rattle.store.specs.declared.Looked.{Looked}
 use Rattle.store.specs.declared.Looked.the-variants.{Found, Absent, Damaged}
 use Rattle.store.specs.declared.Placed.the-variants.{Added, Full, Broken}
+pub use Rattle.store.specs.Good.{keyAt, linkAt, Key, StoreTree, GoodStore, Stored}
+use Rattle.store.specs.Good.{Tree}
 use Rattle.store.proofs.LookLaws.{Inside, walk-inside, walk-copy}
-use Rattle.store.proofs.Tree.{Telling, Tree, New, Outcome, Grown, single, moved, searched, grown, deepen}
-
--- The key of record p, and its link on a side.
-abbrev pub keyAt : Store → ℕ → ℕ
-keyAt q p = getD (q .keys) p 0
-
-abbrev pub linkAt : Store → Bool → ℕ → ℕ
-linkAt q = linkOf (q .left) (q .right)
+use Rattle.store.proofs.Tree.{Telling, New, Outcome, Grown, single, moved, searched, grown, deepen}
 
 -- ---- every store
 
@@ -181,22 +176,8 @@ copy-added q r k p s c hp hq hr =
 
 -- ---- a good store, at w bits for each of n rows
 
--- A key of n rows: its rows from n on are 0.
-abbrev pub Key : ℕ → ℕ → ℕ → Type 0
-Key w n k = k < 2 ^ (w * n)
-
 abbrev pub telling : (w n : ℕ) → Telling bitOf (w * n) (Key w n)
 telling w n = record { same = eqb; yes-same = eqb-true; not-same = eqb-false; apart = bits-eq (w * n) }
-
-abbrev pub StoreTree : ℕ → ℕ → Store → (ℕ → ℕ) → Type 0
-StoreTree w n q depth = Tree bitOf (Key w n) (q .found) (keyAt q) (linkAt q) depth
-
-abbrev pub GoodStore : ℕ → ℕ → Store → Type 0
-GoodStore w n q = (depth : ℕ → ℕ) × StoreTree w n q depth
-
--- A key is among the records.
-abbrev pub Stored : Store → ℕ → Type 0
-Stored q k = (p : ℕ) × (p < q .found) × (keyAt q p ≡ k)
 
 -- What a search of a good store answers.
 pub search-answers : (w n : ℕ) (q : Store) (depth : ℕ → ℕ) → StoreTree w n q depth → (k : ℕ) → Key w n k

@@ -1,6 +1,5 @@
--- The good store, over any keys K, any bits of them, any test of two, and the number D of bits that tell two good keys apart: what a search of it
--- answers, and that an added record keeps it good. `depth` is at which depth a record lies; the path to it is that many bits of its own key.
--- Assumes nothing.
+-- The good store of specs/Good, over any keys K, any bits of them, any test of two, and the number D of bits that tell two good keys apart: what a
+-- search of it answers, and that an added record keeps it good. Assumes nothing.
 use Prim.Native.Nat.{ℕ, suc, _+_, _-_, _≤_, _<_}
 use mathlib.Core.Bool.{Bool, true, false, cond, Bool-discrete}
 use mathlib.Core.Logic.{_⊎_, inl, inr}
@@ -12,6 +11,7 @@ use lib.Dec.{eqb}
 use borrow.Author.Count.{below-more}
 use borrow.Author.Tests.{eq-eqb, ne-eqb}
 use Rattle.store.specs.Store.{walk}
+use Rattle.store.specs.Good.{Agree, Child, Tree}
 use Rattle.store.specs.declared.Looked.{Looked}
 use Rattle.store.specs.declared.Looked.the-variants.{Found, Absent, Damaged}
 use Rattle.store.proofs.LookLaws.{by-looks}
@@ -21,34 +21,12 @@ unfoldable pub deepen : ℕ → (ℕ → ℕ) → ℕ → ℕ → ℕ
 deepen found depth p q = cond (eqb q found) (depth p + 1) (depth q)
 
 module _ {K : Type 0} (bit : K → ℕ → Bool) where
-  -- Two keys have the same bits below d.
-  abbrev pub Agree : K → K → ℕ → Type 0
-  Agree a b d = (i : ℕ) → i < d → bit a i ≡ bit b i
-
-  further : (a b : K) (d e : ℕ) → e ≡ d + 1 → Agree a b d → bit a d ≡ bit b d → Agree a b e
+  further : (a b : K) (d e : ℕ) → e ≡ d + 1 → Agree bit a b d → bit a d ≡ bit b d → Agree bit a b e
   further a b d e q h here i l = below-more (λ (j : ℕ). bit a j ≡ bit b j) d h here i (omega arith)
-
-  -- What a link l on side s of record p names: a record one deeper, whose key goes p's way and then to s.
-  pub record Child (found : ℕ) (key : ℕ → K) (depth : ℕ → ℕ) (s : Bool) (p l : ℕ) : Type 0 where
-    pub within : l ≤ found
-    pub deeper : depth (l - 1) ≡ depth p + 1
-    pub turned : bit (key (l - 1)) (depth p) ≡ s
-    pub along : Agree (key (l - 1)) (key p) (depth p)
-
-  -- A store is good: it has a record 0 at depth 0, only good keys and none twice, every link leads to a child, and every record is reached.
-  pub record Tree (Good : K → Type 0) (found : ℕ) (key : ℕ → K) (link : Bool → ℕ → ℕ) (depth : ℕ → ℕ) : Type 0 where
-    pub some : 0 < found
-    pub root : depth 0 ≡ 0
-    pub good : (p : ℕ) → p < found → Good (key p)
-    pub down : (s : Bool) (p : ℕ) → p < found → (link s p ≡ 0 → ⊥) → Child found key depth s p (link s p)
-    -- A record whose key goes p's way down to p lies below p, on the side of its bit.
-    pub cover : (p q : ℕ) → p < found → q < found → (p ≡ q → ⊥) → depth p ≤ depth q → Agree (key q) (key p) (depth p)
-        → (link (bit (key q) (depth p)) p ≡ 0 → ⊥) × (depth p < depth q)
-    pub once : (p q : ℕ) → p < found → q < found → key p ≡ key q → p ≡ q
 
   -- One record without links.
   pub single : (Good : K → Type 0) (key : ℕ → K) (link : Bool → ℕ → ℕ) → Good (key 0) → ((s : Bool) → link s 0 ≡ 0)
-      → Tree Good 1 key link (λ p. 0)
+      → Tree bit Good 1 key link (λ p. 0)
   single Good key link g z =
       record {
         some = omega arith;
@@ -63,28 +41,28 @@ module _ {K : Type 0} (bit : K → ℕ → Bool) where
       lone p l = omega arith
 
   -- Only the records count: a copy of a good store is good.
-  pub moved : (Good : K → Type 0) (found : ℕ) (key key' : ℕ → K) (link link' : Bool → ℕ → ℕ) (depth : ℕ → ℕ) → Tree Good found key link depth
-      → ((p : ℕ) → p < found → key' p ≡ key p) → ((s : Bool) (p : ℕ) → p < found → link' s p ≡ link s p) → Tree Good found key' link' depth
+  pub moved : (Good : K → Type 0) (found : ℕ) (key key' : ℕ → K) (link link' : Bool → ℕ → ℕ) (depth : ℕ → ℕ) → Tree bit Good found key link depth
+      → ((p : ℕ) → p < found → key' p ≡ key p) → ((s : Bool) (p : ℕ) → p < found → link' s p ≡ link s p) → Tree bit Good found key' link' depth
   moved Good found key key' link link' depth t hk hl =
       record {
         some = t .some;
         root = t .root;
         good = λ p l. subst Good (sym (hk p l)) (t .good p l);
-        down = λ s p l n. subst (Child found key' depth s p) (sym (hl s p l)) (child s p l (t .down s p l (λ z. n (hl s p l ∙ z))) (λ z. n (hl s p l ∙ z)));
+        down = λ s p l n. subst (Child bit found key' depth s p) (sym (hl s p l)) (child s p l (t .down s p l (λ z. n (hl s p l ∙ z))) (λ z. n (hl s p l ∙ z)));
         cover = λ p q lp lq n d a.
             let c = t .cover p q lp lq n d (λ i h. subst₂ (λ (x y : K). bit x i ≡ bit y i) (hk q lq) (hk p lp) (a i h)) in
             (λ z. c .0 (sym (hl (bit (key q) (depth p)) p lp) ∙ ap (λ (x : K). link' (bit x (depth p)) p) (sym (hk q lq)) ∙ z), c .1);
         once = λ p q lp lq e. t .once p q lp lq (sym (hk p lp) ∙ e ∙ hk q lq);
       }
     where
-      child : (s : Bool) (p : ℕ) → p < found → Child found key depth s p (link s p) → (link s p ≡ 0 → ⊥) → Child found key' depth s p (link s p)
+      child : (s : Bool) (p : ℕ) → p < found → Child bit found key depth s p (link s p) → (link s p ≡ 0 → ⊥) → Child bit found key' depth s p (link s p)
       child s p l c n =
           let kc : key' (link s p - 1) ≡ key (link s p - 1) = hk (link s p - 1) (omega (arith, c .within)) in
           record {
             within = c .within;
             deeper = c .deeper;
             turned = ap (λ (x : K). bit x (depth p)) kc ∙ c .turned;
-            along = subst₂ (λ (x y : K). Agree x y (depth p)) (sym kc) (sym (hk p l)) (c .along);
+            along = subst₂ (λ (x y : K). Agree bit x y (depth p)) (sym kc) (sym (hk p l)) (c .along);
           }
 
   -- What is known where a search for k ends in Found p n, and in Absent p s n.
@@ -97,7 +75,7 @@ module _ {K : Type 0} (bit : K → ℕ → Bool) where
     pub here : p < found
     pub side : bit k (depth p) ≡ s
     pub empty : link s p ≡ 0
-    pub along : Agree k (key p) (depth p)
+    pub along : Agree bit k (key p) (depth p)
     pub nowhere : (q : ℕ) → q < found → key q ≡ k → ⊥
     pub looks : n ≡ depth p + 1
 
@@ -120,10 +98,10 @@ module _ {K : Type 0} (bit : K → ℕ → Bool) where
     pub same : K → K → Bool
     pub yes-same : (a b : K) → same a b ≡ true → a ≡ b
     pub not-same : (a b : K) → same a b ≡ false → a ≡ b → ⊥
-    pub apart : (a b : K) → Good a → Good b → Agree a b D → a ≡ b
+    pub apart : (a b : K) → Good a → Good b → Agree bit a b D → a ≡ b
 
   module _ (D : ℕ) (Good : K → Type 0) (σ : Telling D Good) where
-    module _ (found : ℕ) (key : ℕ → K) (link : Bool → ℕ → ℕ) (depth : ℕ → ℕ) (t : Tree Good found key link depth) (k : K) (gk : Good k) where
+    module _ (found : ℕ) (key : ℕ → K) (link : Bool → ℕ → ℕ) (depth : ℕ → ℕ) (t : Tree bit Good found key link depth) (k : K) (gk : Good k) where
       abbrev hits : ℕ → Bool
       hits p = σ .same (key p) k
 
@@ -135,7 +113,7 @@ module _ {K : Type 0} (bit : K → ℕ → Bool) where
         here : p < found
         deep : depth p ≡ d
         left : f + d ≡ D
-        agree : Agree k (key p) (depth p)
+        agree : Agree bit k (key p) (depth p)
         ahead : (q : ℕ) → q < found → key q ≡ k → depth p ≤ depth q
 
       -- A stored key that differs from p's lies below p, on the side of its bit.
@@ -219,7 +197,7 @@ module _ {K : Type 0} (bit : K → ℕ → Bool) where
           by (Damaged n) w = absurd w
 
     -- ---- a record added after an absent answer, with the cells of `Grown` and the depths of `deepen`
-    module _ (found : ℕ) (key key' : ℕ → K) (link link' : Bool → ℕ → ℕ) (depth : ℕ → ℕ) (t : Tree Good found key link depth) (k : K) (gk : Good k)
+    module _ (found : ℕ) (key key' : ℕ → K) (link link' : Bool → ℕ → ℕ) (depth : ℕ → ℕ) (t : Tree bit Good found key link depth) (k : K) (gk : Good k)
         (p : ℕ) (s : Bool) (n : ℕ) (w : New found key link depth k p s n) (g : Grown found key key' link link' k p s) where
       abbrev depth' : ℕ → ℕ
       depth' = deepen found depth p
@@ -257,7 +235,7 @@ module _ {K : Type 0} (bit : K → ℕ → Bool) where
           both (no a) (no b) = inr (λ h. a (h .0))
 
       -- The children of old records: the new one, and the old ones.
-      hung' : Child (found + 1) key' depth' s p (found + 1)
+      hung' : Child bit (found + 1) key' depth' s p (found + 1)
       hung' =
           let e : found + 1 - 1 ≡ found = omega arith in
           let kk : key' (found + 1 - 1) ≡ k = ap key' e ∙ g .new-key in
@@ -265,10 +243,10 @@ module _ {K : Type 0} (bit : K → ℕ → Bool) where
             within = omega arith;
             deeper = ap depth' e ∙ new-depth ∙ ap (λ (x : ℕ). x + 1) (sym (old-depth p (w .here)));
             turned = ap₂ bit kk (old-depth p (w .here)) ∙ w .side;
-            along = subst₃ Agree (sym kk) (sym (g .old-key p (w .here))) (sym (old-depth p (w .here))) (w .along);
+            along = subst₃ (Agree bit) (sym kk) (sym (g .old-key p (w .here))) (sym (old-depth p (w .here))) (w .along);
           }
 
-      kept' : (r : Bool) (q : ℕ) → q < found → (link r q ≡ 0 → ⊥) → Child (found + 1) key' depth' r q (link r q)
+      kept' : (r : Bool) (q : ℕ) → q < found → (link r q ≡ 0 → ⊥) → Child bit (found + 1) key' depth' r q (link r q)
       kept' r q l z =
           let c = t .down r q l z in
           let ll : link r q - 1 < found = omega (arith, c .within) in
@@ -279,20 +257,20 @@ module _ {K : Type 0} (bit : K → ℕ → Bool) where
             within = omega (arith, c .within);
             deeper = dc ∙ c .deeper ∙ ap (λ (x : ℕ). x + 1) (sym dq);
             turned = ap₂ bit kc dq ∙ c .turned;
-            along = subst₃ Agree (sym kc) (sym (g .old-key q l)) (sym dq) (c .along);
+            along = subst₃ (Agree bit) (sym kc) (sym (g .old-key q l)) (sym dq) (c .along);
           }
 
-      down' : (r : Bool) (q : ℕ) → (q ≡ found) ⊎ (q < found) → (link' r q ≡ 0 → ⊥) → Child (found + 1) key' depth' r q (link' r q)
+      down' : (r : Bool) (q : ℕ) → (q ≡ found) ⊎ (q < found) → (link' r q ≡ 0 → ⊥) → Child bit (found + 1) key' depth' r q (link' r q)
       down' r q (inl e) z = absurd (z (ap (link' r) e ∙ g .bare r))
       down' r q (inr l) z = by (this r q)
         where
-          by : ((q ≡ p) × (r ≡ s)) ⊎ ((q ≡ p) × (r ≡ s) → ⊥) → Child (found + 1) key' depth' r q (link' r q)
+          by : ((q ≡ p) × (r ≡ s)) ⊎ ((q ≡ p) × (r ≡ s) → ⊥) → Child bit (found + 1) key' depth' r q (link' r q)
           by (inl e) =
-              subst₃ (λ (b : Bool) (x l : ℕ). Child (found + 1) key' depth' b x l) (sym (e .1)) (sym (e .0))
+              subst₃ (λ (b : Bool) (x l : ℕ). Child bit (found + 1) key' depth' b x l) (sym (e .1)) (sym (e .0))
               (sym (ap₂ link' (e .1) (e .0) ∙ g .hung)) hung'
           by (inr m) =
               let o = g .old-link r q l m in
-              subst (Child (found + 1) key' depth' r q) (sym o) (kept' r q l (λ x. z (o ∙ x)))
+              subst (Child bit (found + 1) key' depth' r q) (sym o) (kept' r q l (λ x. z (o ∙ x)))
 
       -- A link that was not empty is not empty afterwards.
       still : (r : Bool) (q : ℕ) → q < found → (link r q ≡ 0 → ⊥) → link' r q ≡ 0 → ⊥
@@ -303,13 +281,13 @@ module _ {K : Type 0} (bit : K → ℕ → Bool) where
           by (inr m) x = z (sym (g .old-link r q l m) ∙ x)
 
       -- No old record lies on k's way as deep as the new one.
-      nobody : (q : ℕ) → q < found → depth p < depth q → Agree (key q) k (depth p + 1) → ⊥
+      nobody : (q : ℕ) → q < found → depth p < depth q → Agree bit (key q) k (depth p + 1) → ⊥
       nobody q l d a =
           let c = t .cover p q (w .here) l (λ e. omega (arith, ap depth e)) (omega arith) (λ i h. a i (omega arith) ∙ w .along i h) in
           c .0 (ap (λ (b : Bool). link b p) (a (depth p) (omega arith) ∙ w .side) ∙ w .empty)
 
       -- An old record on k's way, no deeper than the new one, has the link that goes k's way.
-      onward : (q : ℕ) → q < found → depth q ≤ depth p + 1 → Agree k (key q) (depth q) → (link' (bit k (depth q)) q ≡ 0 → ⊥) × (depth q < depth p + 1)
+      onward : (q : ℕ) → q < found → depth q ≤ depth p + 1 → Agree bit k (key q) (depth q) → (link' (bit k (depth q)) q ≡ 0 → ⊥) × (depth q < depth p + 1)
       onward q l d a = by (ℕ-discrete q p) (eq-or-lt-of-le d)
         where
           by : Dec (q ≡ p) → (depth q ≡ depth p + 1) ⊎ (depth q < depth p + 1) → (link' (bit k (depth q)) q ≡ 0 → ⊥) × (depth q < depth p + 1)
@@ -326,26 +304,26 @@ module _ {K : Type 0} (bit : K → ℕ → Bool) where
       Reached a b = (link' (bit (key' b) (depth' a)) a ≡ 0 → ⊥) × (depth' a < depth' b)
 
       cover' : (a b : ℕ) → (a ≡ found) ⊎ (a < found) → (b ≡ found) ⊎ (b < found) → (a ≡ b → ⊥) → depth' a ≤ depth' b
-          → Agree (key' b) (key' a) (depth' a) → Reached a b
+          → Agree bit (key' b) (key' a) (depth' a) → Reached a b
       cover' a b (inl x) (inl y) m d h = absurd (m (x ∙ sym y))
       cover' a b (inl x) (inr y) m d h =
           let da : depth' a ≡ depth p + 1 = ap depth' x ∙ new-depth in
-          absurd (nobody b y (omega (arith, da, old-depth b y)) (subst₃ Agree (g .old-key b y) (ap key' x ∙ g .new-key) da h))
+          absurd (nobody b y (omega (arith, da, old-depth b y)) (subst₃ (Agree bit) (g .old-key b y) (ap key' x ∙ g .new-key) da h))
       cover' a b (inr x) (inl y) m d h =
           let db : depth' b ≡ depth p + 1 = ap depth' y ∙ new-depth in
           let da = old-depth a x in
           let kb : key' b ≡ k = ap key' y ∙ g .new-key in
-          let c = onward a x (omega (arith, da, db)) (subst₃ Agree kb (g .old-key a x) da h) in
+          let c = onward a x (omega (arith, da, db)) (subst₃ (Agree bit) kb (g .old-key a x) da h) in
           (λ z. c .0 (ap (λ (r : Bool). link' r a) (sym (ap₂ bit kb da)) ∙ z), omega (arith, da, db, c .1))
       cover' a b (inr x) (inr y) m d h =
           let da = old-depth a x in
           let db = old-depth b y in
           let kb = g .old-key b y in
-          let c = t .cover a b x y m (omega (arith, da, db)) (subst₃ Agree kb (g .old-key a x) da h) in
+          let c = t .cover a b x y m (omega (arith, da, db)) (subst₃ (Agree bit) kb (g .old-key a x) da h) in
           (λ z. still (bit (key b) (depth a)) a x (c .0) (ap (λ (r : Bool). link' r a) (sym (ap₂ bit kb da)) ∙ z), omega (arith, da, db, c .1))
 
       -- The store is good again.
-      pub grown : Tree Good (found + 1) key' link' depth'
+      pub grown : Tree bit Good (found + 1) key' link' depth'
       grown =
           record {
             some = omega arith;

@@ -82,6 +82,11 @@ unfoldable pub named : Bool → List ℕ → ℕ → ℕ → List ℕ
 named true links p link = set links p link
 named false links p link = links
 
+-- Both sides, once record p names record `at` on side s.
+pub record Hangs (ls rs : List ℕ) (p : ℕ) (s : Bool) (at : ℕ) (ls′ rs′ : List ℕ) : Type 0 where
+  pub left : ls′ ≡ named (not s) ls p (at + 1)
+  pub right : rs′ ≡ named s rs p (at + 1)
+
 -- ".. and the empty link that ended the search names it": that of record p on side s.
 unfoldable pub added : Store → ℕ → ℕ → Bool → Store
 unfolding filed

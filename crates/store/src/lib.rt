@@ -4,7 +4,7 @@ ghost use mathlib.Core.Path.{_≡_};
 ghost use Prim.Native.Nat.{_<_, _≤_, min};
 ghost use lib.Dec.{eqb};
 ghost use lib.ListN.{length, getD};
-ghost use Rattle.store.specs.Store.{storeIn, roomOf, linkOf, searchOf, filed, added, Holds, OfferPost};
+ghost use Rattle.store.specs.Store.{storeIn, mostRecords, roomOf, linkOf, searchOf, filed, added, Hangs, Holds, OfferPost};
 
 // The most records of a store: a link is a place plus 1 in 16 bits.
 const MOST_RECORDS: usize = 65535;
@@ -127,6 +127,20 @@ pub fn file_record(keys: &mut [u64], left: &mut [u16], right: &mut [u16], at: us
     right[at] = 0;
 }
 
+// Writes into the link of record `place` on a side that it names record `at`: its place plus 1.
+// The tree grows by this alone, wherever the keys lie.
+pub fn hang(left: &mut [u16], right: &mut [u16], place: usize, side: bool, at: usize)
+    requires { ⌜ (place < length (now left)) × (place < length (now right)) × (at < mostRecords) ⌝ }
+    ensures { λ _. ⌜ Hangs (now (left .entry)) (now (right .entry)) place side at (now (left .exit)) (now (right .exit)) ⌝ }
+{
+    let link = (at + 1) as u16;
+    if side {
+        right[place] = link;
+    } else {
+        left[place] = link;
+    }
+}
+
 // Writes a key as the next record, and into the empty link that ended its search the record's place plus 1.
 // The caller has asked that a record is free.
 pub fn add(
@@ -142,12 +156,7 @@ pub fn add(
     ensures { λ _. ⌜ Holds (now (keys .exit)) (now (left .exit)) (now (right .exit)) (added (storeIn (now (keys .entry)) (now (left .entry)) (now (right .entry)) found) key place side) ⌝ }
 {
     file_record(keys, left, right, found, key);
-    let link = (found + 1) as u16;
-    if side {
-        right[place] = link;
-    } else {
-        left[place] = link;
-    }
+    hang(left, right, place, side, found);
 }
 
 // Searches for a key, and adds it where it is absent and a record is free.

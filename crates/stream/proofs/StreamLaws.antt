@@ -1,4 +1,4 @@
--- What the code goes by: where a trial is due a set was taken, every record that is used lies in the slices, and the first row alone is a named key.
+-- What the code goes by: where a trial is due a set was taken, every record that is used lies in the slices, and what open and a row ask for is there.
 -- Assumes nothing.
 use Prim.Native.Nat.{ℕ, _*_, _^_, _≤_, _<_}
 use native.Mathlib.Nat.{eq-zero-or-pos}
@@ -7,26 +7,22 @@ use mathlib.Core.Path.{_≡_, refl, sym, ap, _∙_}
 use mathlib.Core.Bool.{Bool}
 use mathlib.Core.Logic.{_⊎_, inl, inr, ⊎-elim}
 use mathlib.Core.List.{List, []}
-use lib.ListN.{length, set, replicate, length-replicate, getD-replicate}
-use lib.Seq.{ext-getD}
-use Rattle.keys.specs.Keys.{bitsPerRow, rowOf, withRow}
+use lib.ListN.{length}
+use Rattle.keys.specs.Keys.{bitsPerRow, withRow}
 use Rattle.tables.specs.declared.Catalogue.{Catalogue}
-use Rattle.tables.specs.Catalogues.{countOf, total}
-use lib.Pow.{pow-pos}
-use native.Mathlib.Decide.{ℕ-discrete}
-use Rattle.rows.proofs.NamedLaws.{key-some, there-row, place-there, row-small}
+use Rattle.tables.specs.Catalogues.{total}
+use Rattle.rows.proofs.NamedLaws.{there-row, first-alone}
 use Rattle.tables.specs.Catalogues as catalogues
 use Rattle.rows.specs.World.{worldOf, setOf}
-use Rattle.rows.specs.Named.{Named, There, rowsThere}
-use Rattle.disjunction.specs.Rule.{alone, extension}
+use Rattle.rows.specs.Named.{There, rowsThere}
+use Rattle.disjunction.specs.Rule.{extension}
 use Rattle.disjunction.specs.Asked.{Asked, everySet, everyWith, wanted}
 use Rattle.tables.specs.Checks.{Lawful}
 use Rattle.disjunction.proofs.RowOrder as order
-use Rattle.rows.proofs.WorldLaws.{row-place, rows-total}
+use Rattle.rows.proofs.WorldLaws.{rows-total}
 use Rattle.store.specs.Store.{Store, searchOf, OfferPost}
 use Rattle.store.proofs.StoreLaws.{refused-stays}
-use Rattle.keys.proofs.KeyLaws.{row-zero, row-same, row-other, with-lt}
-use Rattle.keys.proofs.SetLaws.{in-length, in-at, in-with}
+use Rattle.keys.proofs.SetLaws.{in-at}
 use Rattle.store.specs.declared.Placed.{Placed}
 use Rattle.store.specs.declared.Placed.the-variants.{Full, Broken}
 use lib.Dec.{ltb, eqb}
@@ -52,38 +48,10 @@ offer-stays q key d r ks ls rs o h =
 
 -- ---- the first row alone
 
--- The key of no row is no set's, and its set is empty.
-empty-set : (cat : Catalogue) → setOf cat 0 ≡ replicate (cat .n) 0
-empty-set cat =
-    ext-getD 0 (setOf cat 0) (replicate (cat .n) 0) (in-length bitsPerRow (cat .n) 0 ∙ sym (length-replicate (cat .n) 0))
-    (λ t h. rw (in-at bitsPerRow (cat .n) 0 t (rw (in-length bitsPerRow (cat .n) 0) at h), row-zero bitsPerRow t, getD-replicate {A = ℕ} (cat .n) t 0 0 (rw (in-length bitsPerRow (cat .n) 0) at h)))
-
--- A row put into it is that row alone,
-pub alone-set : (cat : Catalogue) (cells : List ℕ) (t r : ℕ) → There cat t r → r < 2 ^ bitsPerRow
-    → setOf cat (withRow bitsPerRow 0 t r) ≡ alone (worldOf cat cells) (record { table = t; row = r })
-unfolding alone
-alone-set cat cells t r h s = in-with bitsPerRow (cat .n) 0 t r (h .table) s ∙ ap (λ (T : List ℕ). set T t r) (empty-set cat)
-
--- and names it.
-pub alone-named : (cat : Catalogue) (t r : ℕ) → There cat t r → r < 2 ^ bitsPerRow → Named cat (withRow bitsPerRow 0 t r)
-alone-named cat t r h s =
-    record {
-      some = key-some bitsPerRow (withRow bitsPerRow 0 t r) t (rw (row-same bitsPerRow 0 t r s) (h .low));
-      low = with-lt bitsPerRow (cat .n) 0 t r (h .table) s (pow-pos (bitsPerRow * cat .n));
-      rows = λ u l. go u (ℕ-discrete u t);
-    }
-  where
-    go : (u : ℕ) → Dec (u ≡ t) → rowOf bitsPerRow (withRow bitsPerRow 0 t r) u ≤ countOf cat u
-    go u (yes e) = rw (e, row-same bitsPerRow 0 t r s) (h .high)
-    go u (no g) = rw (row-other bitsPerRow 0 t r u s g, row-zero bitsPerRow u) (omega arith)
-
 -- The first row alone, extended, as open has it.
 pub first-grown : (cat : Catalogue) (cells : List ℕ) (lent : ℕ) → Lawful cat lent → 0 < total cat
     → extension (worldOf cat cells) (setOf cat (withRow bitsPerRow 0 (catalogues.rowAt cat 0 .table) (catalogues.rowAt cat 0 .row))) ≡ firstGrown cat cells everySet
-first-grown cat cells lent L h =
-    let x = place-there cat cells 0 h in
-    let s = row-small cat lent L _ _ x in
-    ap (extension (worldOf cat cells)) (alone-set cat cells _ _ x s ∙ ap (alone (worldOf cat cells)) (sym (row-place cat cells 0 h)))
+first-grown cat cells lent L h = ap (extension (worldOf cat cells)) (first-alone cat cells lent L h)
 
 -- ---- what is asked for
 

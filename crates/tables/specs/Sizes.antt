@@ -1,4 +1,4 @@
--- The sizes of document 01, each under its name. Assumes nothing.
+-- The sizes of document 01 and the image's version, each under its name. Assumes nothing.
 use Prim.Native.Nat.{ℕ}
 
 -- "Attributes m: 1 to 63"
@@ -16,3 +16,7 @@ mostRows = 255
 -- "Cells of all tables together: at most 8,192"
 abbrev pub mostCells : ℕ
 mostCells = 8192
+
+-- "version (1)": the first number of an image.
+abbrev pub version : ℕ
+version = 1

@@ -1,8 +1,8 @@
 // A verdict of the loader as one number, for the calls that C makes.
 ghost use mathlib.Core.Path.{_≡_};
-ghost use Rattle.image.specs.Load.{farthest, NearVerdict};
+ghost use Rattle.loader.specs.Load.{farthest, NearVerdict};
 ghost use Rattle.verdicts.specs.Number.{doorNumber};
-use image::Verdict;
+use loader::Verdict;
 
 // The door's number for a verdict of the loader: 0 for good, else place x 32 + refusal.
 // No place of a refusal lies far from the image's start, so the number fits.
@@ -12,6 +12,6 @@ pub fn number_of(verdict: Verdict) -> u64
 {
     match verdict {
         Verdict::Good => 0,
-        Verdict::Refused(k, p) => (p as u64) * 32 + (k as u64),
+        Verdict::Refused(f) => (f.place as u64) * 32 + (f.refusal as u64),
     }
 }

@@ -1,14 +1,21 @@
 //! Times the library beside the same rule in Rust, as worded and with shortcuts, in one run: ratios, never seconds alone.
-//! Use: peer-bench [repeats]; peer-bench once LETTER FORM for one drain of a case by one form (0 the library, 1 as worded, 2 with shortcuts), whose
-//! instructions callgrind counts; or peer-bench sql for the chain's tables and their nested full outer joins as SQL.
+//! Use: peer-bench [repeats]; peer-bench rows for the streams of one row alone; peer-bench once LETTER FORM for one drain of a case by one form (0 the
+//! library, 1 as worded, 2 with shortcuts), whose instructions callgrind counts; peer-bench listings PROGRAM [repeats] for the listing program beside a
+//! plain listing in Rust, which is peer-bench list of the image on standard input; or peer-bench sql for the chain's tables and their nested full outer
+//! joins as SQL.
 #![forbid(unsafe_code)]
 use peer::image::{self, Catalogue};
 use peer::make::{self, Tables};
 use peer::random::Random;
-use peer::rule::{self, Answer, Outcome, Record, Store};
-use peer::words::{self, Call, RECORD, RESULT};
+use peer::listing::{self, Next, Open};
+use peer::rule::{self, Answer, Asked, Outcome, Store};
+use peer::words::{self, Call, HOLDING, RESULT};
 use peer::{library, swift};
+use std::fs::{self, File};
 use std::hint::black_box;
+use std::io::{self, Read, Write};
+use std::path::Path;
+use std::process::{Command, Stdio};
 use std::time::Instant;
 
 /// The records that a drain is lent.
@@ -56,14 +63,19 @@ impl Room {
     }
 }
 
-/// Drains the tables by the library's calls for C, each with this budget.
-fn by_library(tables: &Tables, room: &mut Room, budget: u64) -> Drained {
+/// Drains the tables by the library's calls for C, each with this budget: of every set, or of those that hold a row of a table.
+fn by_library(tables: &Tables, room: &mut Room, asked: Asked, budget: u64) -> Drained {
     let catalogue = words::words_of(&tables.catalogue);
-    let (mut store, mut record, mut result, mut padded) = (room.store(), [0; RECORD], [0; RESULT], [0; 63]);
-    let mut drained = Drained { row_tests: library::open(&catalogue, &tables.cells, &mut store, &mut record) / 32, ..Drained::default() };
+    let (mut store, mut record, mut result, mut padded) = (room.store(), [0; HOLDING], [0; RESULT], [0; 63]);
+    let next = if asked == Asked::EverySet { library::next } else { library::next_holding };
+    let opened = match asked {
+        Asked::EverySet => library::open(&catalogue, &tables.cells, &mut store, &mut record),
+        Asked::Holding { table, row } => library::open_holding(&catalogue, &tables.cells, &mut store, table, row, &mut record),
+    };
+    let mut drained = Drained { row_tests: opened / 32, ..Drained::default() };
     loop {
         let call = Call { record: &mut record, budget, padded: &mut padded, result: &mut result };
-        let answer = library::next(&catalogue, &tables.cells, &mut store, call);
+        let answer = next(&catalogue, &tables.cells, &mut store, call);
         drained.call([result[1], result[2], result[3]]);
         match answer {
             32 => drained.set(result[0], &padded[..tables.catalogue.m as usize]),
@@ -73,9 +85,6 @@ fn by_library(tables: &Tables, room: &mut Room, budget: u64) -> Drained {
         }
     }
 }
-
-type Open = fn(&Catalogue, &[u64], &mut Store) -> Result<(Record, u64), peer::refusal::Refusal>;
-type Next = fn(&Catalogue, &[u64], &mut Store, &mut Record, u64, &mut [u64]) -> (Outcome, rule::Counts);
 
 /// Drains the tables by one of the two forms in Rust, each call with this budget.
 fn by_rust(tables: &Tables, room: &mut Room, budget: u64, open: Open, next: Next) -> Drained {
@@ -207,7 +216,7 @@ fn room() -> Room {
 /// One drain of a case by one of the three forms.
 fn drained(case: &Case, room: &mut Room, form: usize) -> Drained {
     match form {
-        0 => by_library(&case.tables, room, case.budget),
+        0 => by_library(&case.tables, room, Asked::EverySet, case.budget),
         1 => by_rust(&case.tables, room, case.budget, rule::open, rule::next),
         _ => by_rust(&case.tables, room, case.budget, swift::open, swift::next),
     }
@@ -226,6 +235,26 @@ fn drain(case: &Case, repeats: usize) {
     println!(
         "({}) {:<40} {:>6} sets  {library:>9.6} s  {each:>6.0} ns a trial  {:>6.3} of worded  {:>6.3} of shortcuts",
         case.letter, case.name, ours.sets, library / worded, library / swift
+    );
+}
+
+/// Rows of the cases of that letter, by table and number: few of a case's sets hold one, of the star an eighth.
+const ROWS: [(&str, u64, u64); 4] = [("a", 3, 8), ("b", 4, 30), ("c", 7, 200), ("e", 7, 20)];
+
+/// Drains the stream of one row and that of every set, and prints the first beside the second. A stream's trials are N for each of its sets.
+fn row_drain(case: &Case, table: u64, row: u64, repeats: usize) {
+    let mut room = room();
+    let rows: u64 = case.tables.catalogue.rows.iter().map(|&rows| u64::from(rows)).sum();
+    let streams = [Asked::Holding { table, row }, Asked::EverySet];
+    let [ours, all] = streams.map(|asked| by_library(&case.tables, &mut room, asked, case.budget));
+    assert!(ours.trials == ours.sets * rows && all.trials == all.sets * rows, "{}: {ours:?} of {all:?} in {rows} rows", case.name);
+    let [time, whole] = best(repeats, |number| {
+        black_box(by_library(&case.tables, &mut room, streams[number], case.budget));
+    });
+    let trials = ours.trials as f64 / all.trials as f64;
+    println!(
+        "({}) table {table}, row {row:<3} {:>4} of {:>4} sets  {:>5} of {:>6} trials  {time:>9.6} s  {trials:>6.4} of the trials  {:>6.4} of the time",
+        case.letter, ours.sets, all.sets, ours.trials, all.trials, time / whole
     );
 }
 
@@ -269,29 +298,126 @@ fn write(name: &str, tables: &Tables, repeats: usize) {
     println!("{name:<42} {:>6} bytes {:>9.6} s  {:>6.3} of a Rust writing", out.len(), library / rounds as f64, library / rust);
 }
 
+/// The keys of all sets of the tables, as the library hands them out.
+fn keys_of(tables: &Tables, room: &mut Room) -> Vec<u64> {
+    let drained = by_library(tables, room, Asked::EverySet, u64::MAX);
+    room.keys[..drained.sets as usize].to_vec()
+}
+
+/// The same keys in another order.
+fn shuffled(keys: &[u64]) -> Vec<u64> {
+    let (mut list, mut random) = (keys.to_vec(), Random::new(7));
+    for place in (1..list.len()).rev() {
+        list.swap(place, random.below(place as u64 + 1) as usize);
+    }
+    list
+}
+
+/// The check of a right list, which has to find it right.
+fn check_list(tables: &Tables, list: &[u64]) {
+    let answer = library::check_list(&words::words_of(&tables.catalogue), &tables.cells, black_box(list), &mut [0]);
+    assert!(answer == 32, "the check of a right list gives {answer}");
+}
+
+/// Checks the star's list in three orders beside the drain of the same tables, and lists of more and more sets at the same N.
+fn lists(repeats: usize) {
+    let mut room = room();
+    let star = make::star(&[8, 8, 8, 8]);
+    let handed = keys_of(&star, &mut room);
+    let mut sorted = handed.clone();
+    sorted.sort_unstable();
+    let orders = [("as handed out", handed.clone()), ("sorted", sorted), ("shuffled", shuffled(&handed))];
+    for (name, list) in &orders {
+        let [checked, drained] = best(repeats, |form| match form {
+            0 => check_list(&star, list),
+            _ => drop(black_box(by_library(&star, &mut room, Asked::EverySet, u64::MAX))),
+        });
+        println!("the star's list, {name:<26} {:>6} sets  {checked:>9.6} s  {:>6.3} of the drain", list.len(), checked / drained);
+    }
+    for counts in [[23, 4, 3, 2], [20, 6, 3, 3], [16, 8, 4, 4], [8, 8, 8, 8]] {
+        let star = make::star(&counts);
+        let list = shuffled(&keys_of(&star, &mut room));
+        let [checked] = best(repeats, |_| check_list(&star, &list));
+        println!("a star of rows {:<29} {:>6} sets  {checked:>9.6} s  {:>6.3} microseconds a set", format!("{counts:?}, N = 32"), list.len(), checked * 1e6 / list.len() as f64);
+    }
+}
+
+/// Lists one image by the listing program and by this one, each a process of its own that is read through a pipe, and prints the ratio.
+/// Both have to print the same before they are timed.
+fn list(name: &str, tables: &Tables, repeats: usize, program: &Path) {
+    let file = std::env::temp_dir().join(format!("harbour-bench-{}", std::process::id()));
+    fs::write(&file, make::good(tables)).expect("the image is not written");
+    let own = std::env::current_exe().expect("this program has no path");
+    let run = |form: usize| {
+        let mut command = if form == 0 { Command::new(program) } else { Command::new(&own) };
+        let image = File::open(&file).expect("the image is not there");
+        if form == 1 {
+            command.arg("list");
+        }
+        command.stdin(Stdio::from(image)).output().expect("a listing does not run").stdout
+    };
+    let text = run(0);
+    assert!(text == run(1), "{name}: the listings differ");
+    let [ours, rust] = best(repeats, |form| {
+        black_box(run(form));
+    });
+    fs::remove_file(&file).expect("the image stays");
+    println!("{name:<42} {:>6} bytes {:>9.6} s  {:>6.3} of a Rust listing", text.len(), ours, ours / rust);
+}
+
+/// The plain listing of the image on standard input, by the rule with shortcuts.
+fn listed() {
+    let mut input = Vec::new();
+    io::stdin().take(listing::INPUT as u64 + 1).read_to_end(&mut input).expect("standard input is not read");
+    let text = listing::list_by(&input, swift::open, swift::next);
+    io::stdout().write_all(text.as_bytes()).expect("standard output is not written");
+}
+
+/// Times the listings of (a) to (e).
+fn listings(program: &Path, repeats: usize) {
+    println!("listings, the best of {repeats}:");
+    for case in cases().iter().filter(|case| "abcde".contains(case.letter)) {
+        list(case.name, &case.tables, repeats, program);
+    }
+}
+
 /// Does what its words say.
 fn main() {
     let words: Vec<String> = std::env::args().skip(1).collect();
-    let use_ = "use: peer-bench [repeats] | once LETTER FORM | sql";
-    assert!(!library::MOCK, "without the library there is nothing to time");
+    let use_ = "use: peer-bench [repeats] | rows | once LETTER FORM | listings PROGRAM [repeats] | list | sql";
     match words.iter().map(String::as_str).collect::<Vec<_>>()[..] {
         ["sql"] => print!("{}", sql(&chain())),
+        ["list"] => listed(),
+        ["listings", program] => listings(Path::new(program), 5),
+        ["listings", program, repeats] => listings(Path::new(program), repeats.parse().expect(use_)),
         ["once", letter, form] => {
             let case = cases().into_iter().find(|case| case.letter == letter).expect(use_);
             println!("{:?}", drained(&case, &mut room(), form.parse().expect(use_)));
         }
+        ["rows"] => rows(5),
         [] => all(5),
         [repeats] => all(repeats.parse().expect(use_)),
         _ => panic!("{use_}"),
     }
 }
 
-/// Times every case, first the drains, then the checks of the images of (a) to (e); then the largest images written.
+/// Times the drains of the sets that hold one row.
+fn rows(repeats: usize) {
+    println!("drains of the sets that hold one row, beside those of every set, the best of {repeats}:");
+    for (letter, table, row) in ROWS {
+        let case = cases().into_iter().find(|case| case.letter == letter).expect("no such case");
+        row_drain(&case, table, row, repeats);
+    }
+}
+
+/// Times every case, first the drains, then those of one row, then the checks of the images of (a) to (e), the largest images written, and lists checked.
 fn all(repeats: usize) {
+    assert!(!library::MOCK, "without the library there is nothing to time");
     println!("drains, the best of {repeats}:");
     for case in cases() {
         drain(&case, repeats);
     }
+    rows(repeats);
     println!("checks of the same images, the best of {repeats}:");
     for case in cases().iter().filter(|case| "abcde".contains(case.letter)) {
         check(case.name, &case.tables, repeats);
@@ -299,4 +425,6 @@ fn all(repeats: usize) {
     println!("the largest images written, the best of {repeats}:");
     write("8,192 cells, codes below 128", &full(0), repeats);
     write("8,192 cells, codes near 2^63", &full((1 << 63) - 200), repeats);
+    println!("checks of lists, the best of {repeats}:");
+    lists(repeats);
 }

@@ -1,11 +1,11 @@
 //! The stream's second program: a listing, a check against the definition, a comparison with the library, and images.
-//! Use: peer-stream list | self [cases] [seed] | compare [cases] [seed] | images folder [number] [seed]
+//! Use: peer-stream list | self [cases] [seed] | compare [cases] [seed] | lists [tables] [seed] | images folder [number] [seed]
 #![forbid(unsafe_code)]
 use peer::edges;
 use peer::listing::{self, INPUT};
 use peer::make;
 use peer::random::Random;
-use peer::{selfcheck, streams};
+use peer::{lists, selfcheck, streams};
 use std::io::{Read, Write};
 use std::path::Path;
 use std::process::exit;
@@ -14,6 +14,9 @@ use std::process::exit;
 /// Runs of fewer cases than the usual number need proportionally fewer.
 const LEAST: u64 = 2000;
 const CASES: u64 = 1_000_000;
+
+/// How many table sets a comparison of lists takes, with twelve lists each.
+const LISTS: u64 = 40_000;
 
 /// The sample of the rules: 25 bytes and the five lines that they print.
 /// The self check begins with it.
@@ -115,9 +118,13 @@ fn main() {
             let cases = number(1, CASES);
             streams::compare(cases, number(2, 1), LEAST.min(cases * LEAST / CASES))
         }
+        Some("lists") => {
+            let cases = number(1, LISTS);
+            lists::compare(cases, number(2, 1), LEAST.min(cases * LEAST / LISTS))
+        }
         Some("images") if words.len() > 1 => images(&words[1], number(2, 1000), number(3, 1)),
         _ => {
-            println!("use: peer-stream list | self [cases] [seed] | compare [cases] [seed] | images folder [number] [seed]");
+            println!("use: peer-stream list | self [cases] [seed] | compare [cases] [seed] | lists [tables] [seed] | images folder [number] [seed]");
             false
         }
     };

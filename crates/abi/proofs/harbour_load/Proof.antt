@@ -5,7 +5,7 @@ use borrow.Author.Needs.{needs}
 use denote.Ref.{now}
 use mathlib.Core.Bool.{false}
 use borrow.Author.Tests.{ltb-false}
-use Rattle.image.proofs.PlaceLaws.{scan-near}
+use Rattle.loader.proofs.PlaceLaws.{scan-near}
 use Rattle.abi.specs.Words.{catalogueWords}
 use Rattle.abi.specs.Calls.{short}
 use Rattle.abi.proofs.CallLaws.{load-short, load-done}

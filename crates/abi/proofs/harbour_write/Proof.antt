@@ -6,7 +6,7 @@ use borrow.Author.Needs.{needs}
 use denote.Ref.{now}
 use mathlib.Core.Bool.{false}
 use borrow.Author.Tests.{ltb-false}
-use Rattle.image.proofs.WriteLaws.{written-few}
+use Rattle.writer.proofs.WriteLaws.{written-few}
 use Rattle.abi.specs.Words.{catalogueWords}
 use Rattle.abi.specs.Calls.{short, writtenNumber, WriteCall}
 use Rattle.abi.proofs.CallLaws.{write-short, write-done}

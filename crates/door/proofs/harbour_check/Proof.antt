@@ -2,7 +2,7 @@
 use Prim.Native.Nat.{_-_}
 use mathlib.Core.Path.{_∙_}
 use borrow.Author.Needs.{needs}
-use Rattle.image.proofs.PlaceLaws.{scan-near}
+use Rattle.loader.proofs.PlaceLaws.{scan-near}
 use Rattle.door.specs.Door.{checkOf}
 use Rattle.door.proofs.harbour_check.Statement.{statement}
 use Rattle.door.proofs.harbour_check.Tie as tie

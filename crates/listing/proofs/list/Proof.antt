@@ -1,95 +1,100 @@
--- `listing::list` meets its contract. Invariant: each total is at most what so many calls can count (`call-small`), and the lent arrays keep their lengths.
--- The measure is how many calls are left. Assumes nothing.
+-- `listing::list` is safe and ends. Invariant: what has been written, what the buffer holds and what is still to come are the listing of the input
+-- (`Printing`). The measure is how many calls are left. Assumes nothing.
 use borrow.Author.Needs.{needs}
 use native.Mathlib.Omega.{arith}
-use Prim.Native.Nat.{ℕ, _*_, _-_, _≤_}
-use mathlib.Core.Path.{_≡_}
-use mathlib.Core.List.{List}
-use lib.ListN.{length}
-use Rattle.tables.specs.declared.Catalogue.{Catalogue}
-use Rattle.machine.specs.Machine.{State, Called, call}
-use Rattle.machine.proofs.CountLaws.{Small, call-small}
+use Prim.Native.Nat.{ℕ, _+_, _-_, _*_, _^_, _≤_, _<_}
+use mathlib.Core.Path.{_≡_, refl, sym, ap, _∙_}
+use mathlib.Core.List.{List, [], _++_}
+use lib.ListN.{length, take}
+use Rattle.listing.specs.Listing.{mostRecords, blank, listingOf, Printing}
+use Rattle.listing.proofs.ListingLaws.{printing-first, printing-next}
 use Rattle.listing.proofs.list.Statement.{statement}
 use Rattle.listing.proofs.list.Tie as tie
 
--- Whatever equals what a call gives has small counts.
-said-small : (cat : Catalogue) (cells row : List ℕ) (b : ℕ) (q : State) (s : Called) → s ≡ call cat cells b q row → Small s
-said-small cat cells row b q s e = rw e (call-small cat cells row b q)
-
 abbrev Inv-loop : tie.InvT-loop
-Inv-loop cat cells keys₀ left₀ right₀ padded₀ total stream₀ trials₀ tests₀ looks₀ calls₀ keys left right padded stream trials tests looks calls =
-    (calls ≤ 4097) × (trials ≤ calls * 2040) × (tests ≤ calls * (2040 * (8 * 2040))) × (looks ≤ calls * (2040 * 65))
-    × (length keys ≡ 4096) × (length left ≡ 4096) × (length right ≡ 4096) × (length padded ≡ 63)
+Inv-loop input cells keys₀ left₀ right₀ padded₀ out₀ p₀ keys left right padded out p =
+    ((w : List ℕ) × Printing (listingOf input) w p cells keys left right padded out)
+    × (length cells ≡ 8192)
+    × (length keys ≡ 4096)
+    × (length left ≡ 4096)
+    × (length right ≡ 4096)
+    × (length padded ≡ 63)
+    × (length out ≡ 32768)
 
 abbrev μ-loop : tie.MeasureT-loop
-μ-loop cat cells keys₀ left₀ right₀ padded₀ total stream₀ trials₀ tests₀ looks₀ calls₀ keys left right padded stream trials tests looks calls =
-    4097 - calls
+μ-loop input cells keys₀ left₀ right₀ padded₀ out₀ p₀ keys left right padded out p = p .calls
 
-total-rows-requires : tie.Need-total-rows-requires Inv-loop μ-loop
-total-rows-requires c κs = search needs
+slice-aggregate-first-lines : tie.Need-slice-aggregate-first-lines Inv-loop μ-loop
+slice-aggregate-first-lines c = search needs
 
-slice-aggregate-open : tie.Need-slice-aggregate-open Inv-loop μ-loop
-slice-aggregate-open c = search needs
+slice-aggregate-first-lines-2 : tie.Need-slice-aggregate-first-lines-2 Inv-loop μ-loop
+slice-aggregate-first-lines-2 c = search needs
 
-slice-aggregate-open-2 : tie.Need-slice-aggregate-open-2 Inv-loop μ-loop
-slice-aggregate-open-2 c = search needs
+slice-aggregate-first-lines-3 : tie.Need-slice-aggregate-first-lines-3 Inv-loop μ-loop
+slice-aggregate-first-lines-3 c = search needs
 
-slice-aggregate-open-3 : tie.Need-slice-aggregate-open-3 Inv-loop μ-loop
-slice-aggregate-open-3 c = search needs
+slice-aggregate-first-lines-4 : tie.Need-slice-aggregate-first-lines-4 Inv-loop μ-loop
+slice-aggregate-first-lines-4 c = search needs
 
-open-requires : tie.Need-open-requires Inv-loop μ-loop
-open-requires c κs = search needs
+slice-aggregate-first-lines-5 : tie.Need-slice-aggregate-first-lines-5 Inv-loop μ-loop
+slice-aggregate-first-lines-5 c = search needs
 
-tables-line-requires : tie.Need-tables-line-requires Inv-loop μ-loop
-tables-line-requires c κs = search needs
+first-lines-requires : tie.Need-first-lines-requires Inv-loop μ-loop
+unfolding blank
+first-lines-requires c κs = (refl, refl, refl, refl, omega arith)
 
 loop-holds : tie.Need-loop-holds Inv-loop μ-loop
-loop-holds c = search needs
+unfolding blank
+loop-holds c =
+    let f = c .before .before .before .before .before .first-lines in
+    (([], printing-first (f .ensures)), f .kept .1 .0, f .kept .1 .1 .0, f .kept .1 .1 .1 .0, f .kept .1 .1 .1 .1 .0, refl, f .kept .1 .1 .1 .1 .1 .0)
 
-slice-aggregate-step : tie.Need-slice-aggregate-step Inv-loop μ-loop
-slice-aggregate-step c = search needs
+slice-aggregate-written : tie.Need-slice-aggregate-written Inv-loop μ-loop
+slice-aggregate-written c = search needs
 
-slice-aggregate-step-2 : tie.Need-slice-aggregate-step-2 Inv-loop μ-loop
-slice-aggregate-step-2 c = search needs
-
-slice-aggregate-step-3 : tie.Need-slice-aggregate-step-3 Inv-loop μ-loop
-slice-aggregate-step-3 c = search needs
-
-slice-aggregate-step-4 : tie.Need-slice-aggregate-step-4 Inv-loop μ-loop
-slice-aggregate-step-4 c = search needs
-
-step-requires : tie.Need-step-requires Inv-loop μ-loop
-step-requires c κs = search needs
-
-add-trials : tie.Need-add-trials Inv-loop μ-loop
-add-trials c = omega (arith, said-small _ _ _ _ _ _ (c .before .before .before .before .before .before .step .ensures) .trials)
-
-add-tests : tie.Need-add-tests Inv-loop μ-loop
-add-tests c = omega (arith, said-small _ _ _ _ _ _ (c .before .before .before .before .before .before .before .step .ensures) .tests)
-
-add-looks : tie.Need-add-looks Inv-loop μ-loop
-add-looks c = omega (arith, said-small _ _ _ _ _ _ (c .before .before .before .before .before .before .before .before .step .ensures) .looks)
-
-add-calls : tie.Need-add-calls Inv-loop μ-loop
-add-calls c = search needs
-
-slice-aggregate-answer-line : tie.Need-slice-aggregate-answer-line Inv-loop μ-loop
-slice-aggregate-answer-line c = search needs
-
-answer-line-requires : tie.Need-answer-line-requires Inv-loop μ-loop
-answer-line-requires c κs = (c .before .before .before .before .before .before .before .before .before .before .before .before .before .before .before .before .before .before .before .before .before .before .before .before .before .before .before .pre, omega (arith, c .before .before .before .before .before .before .before .before .before .before .before .before .before .before .before .before .before .before .before .before .before .before .before .before .before .before .before .pre .attributes))
+written-requires : tie.Need-written-requires Inv-loop μ-loop
+written-requires c κs = c .before .before .before .loop .inv .0 .1 .filled
 
 returns : tie.Need-returns Inv-loop μ-loop
 returns c = search needs
 
+slice-aggregate-more-lines : tie.Need-slice-aggregate-more-lines Inv-loop μ-loop
+slice-aggregate-more-lines c = search needs
+
+slice-aggregate-more-lines-2 : tie.Need-slice-aggregate-more-lines-2 Inv-loop μ-loop
+slice-aggregate-more-lines-2 c = search needs
+
+slice-aggregate-more-lines-3 : tie.Need-slice-aggregate-more-lines-3 Inv-loop μ-loop
+slice-aggregate-more-lines-3 c = search needs
+
+slice-aggregate-more-lines-4 : tie.Need-slice-aggregate-more-lines-4 Inv-loop μ-loop
+slice-aggregate-more-lines-4 c = search needs
+
+slice-aggregate-more-lines-5 : tie.Need-slice-aggregate-more-lines-5 Inv-loop μ-loop
+slice-aggregate-more-lines-5 c = search needs
+
+slice-aggregate-more-lines-6 : tie.Need-slice-aggregate-more-lines-6 Inv-loop μ-loop
+slice-aggregate-more-lines-6 c = search needs
+
+more-lines-requires : tie.Need-more-lines-requires Inv-loop μ-loop
+more-lines-requires c κs =
+    let l = c .before .before .before .before .before .before .before .before .before .before .before .loop in
+    (c .before .before .before .before .before .before .before .before .before .if1 .taken, l .inv .0 .1 .ready (c .before .before .before .before .before .before .before .before .before .if1 .taken), omega (arith, l .inv .6))
+
 loop-less : tie.Need-loop-less Inv-loop μ-loop
-loop-less c = search needs
+loop-less c = c .before .before .before .before .before .more-lines .ensures .0
 
 loop-again : tie.Need-loop-again Inv-loop μ-loop
 loop-again c =
-    let w = said-small _ _ _ _ _ _ (c .before .before .before .before .before .before .before .before .before .before .before .step .ensures) in
-    let i = c .before .before .before .before .before .before .before .before .before .before .before .before .before .before .before .before .before .loop .inv in
-    (omega arith, omega (arith, w .trials, i .1), omega (arith, w .tests, i .2), omega (arith, w .looks, i .3), search needs, search needs, search needs, search needs)
+    let l = c .before .before .before .before .before .before .before .before .before .before .before .before .before .before .before .before .before .loop in
+    let m = c .before .before .before .before .before .more-lines in
+    ((_, printing-next (l .inv .0 .1) (m .ensures .1)), l .inv .1, m .kept .1 .1 .0 ∙ l .inv .2, m .kept .1 .1 .1 .0 ∙ l .inv .3, m .kept .1 .1 .1 .1 .0 ∙ l .inv .4, m .kept .1 .1 .1 .1 .1 .0 ∙ l .inv .5, m .kept .1 .1 .1 .1 .1 .1 .0 ∙ l .inv .6)
+
+slice-aggregate-written-2 : tie.Need-slice-aggregate-written-2 Inv-loop μ-loop
+slice-aggregate-written-2 c = search needs
+
+written-requires-2 : tie.Need-written-requires-2 Inv-loop μ-loop
+written-requires-2 c κs = c .before .before .before .loop .inv .0 .1 .filled
 
 returns-2 : tie.Need-returns-2 Inv-loop μ-loop
 returns-2 c = search needs
@@ -100,25 +105,25 @@ list-spec =
     (tie.spec
     Inv-loop
     μ-loop
-    total-rows-requires
-    slice-aggregate-open
-    slice-aggregate-open-2
-    slice-aggregate-open-3
-    open-requires
-    tables-line-requires
+    slice-aggregate-first-lines
+    slice-aggregate-first-lines-2
+    slice-aggregate-first-lines-3
+    slice-aggregate-first-lines-4
+    slice-aggregate-first-lines-5
+    first-lines-requires
     loop-holds
-    slice-aggregate-step
-    slice-aggregate-step-2
-    slice-aggregate-step-3
-    slice-aggregate-step-4
-    step-requires
-    add-trials
-    add-tests
-    add-looks
-    add-calls
-    slice-aggregate-answer-line
-    answer-line-requires
+    slice-aggregate-written
+    written-requires
     returns
+    slice-aggregate-more-lines
+    slice-aggregate-more-lines-2
+    slice-aggregate-more-lines-3
+    slice-aggregate-more-lines-4
+    slice-aggregate-more-lines-5
+    slice-aggregate-more-lines-6
+    more-lines-requires
     loop-less
     loop-again
+    slice-aggregate-written-2
+    written-requires-2
     returns-2)

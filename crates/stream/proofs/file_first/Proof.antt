@@ -3,8 +3,7 @@ use native.Mathlib.Omega.{arith}
 use mathlib.Core.Path.{_≡_, refl, sym, _∙_}
 use borrow.Author.Needs.{needs}
 use Rattle.store.specs.Store.{filed}
-use Rattle.rows.proofs.NamedLaws.{row-small}
-use Rattle.stream.proofs.StreamLaws.{alone-set, alone-named}
+use Rattle.rows.proofs.NamedLaws.{row-small, alone-set, alone-named}
 use Rattle.stream.proofs.file_first.Statement.{statement}
 use Rattle.stream.proofs.file_first.Tie as tie
 

@@ -2,13 +2,13 @@
 use native.Mathlib.Omega.{arith}
 use Prim.Native.Nat.{_-_}
 use borrow.Author.Needs.{needs}
-use Rattle.image.specs.declared.Verdict.the-variants.{Refused}
-use Rattle.image.specs.Load.{farthest, NearVerdict}
+use Rattle.loader.specs.declared.Verdict.the-variants.{Refused}
+use Rattle.loader.specs.Load.{farthest, NearVerdict}
 use Rattle.verdicts.proofs.number_of.Statement.{statement}
 use Rattle.verdicts.proofs.number_of.Tie as tie
 
 -- The refusal is near the start.
-near : (c : tie.After-known-told) → NearVerdict farthest (Refused (c .before .verdict .given .0 .0) (c .before .verdict .given .0 .1 .0))
+near : (c : tie.After-known-told) → NearVerdict farthest (Refused (c .before .verdict .given .0 .0))
 near c = rw (c .before .verdict .given .1) at (c .before .before .before .pre)
 
 enum-told : tie.Need-enum-told

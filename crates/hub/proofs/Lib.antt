@@ -1,0 +1,4 @@
+pub mod VerdictLaws
+pub mod KeyVerdicts
+pub mod TreeLaws
+pub mod JudgingLaws

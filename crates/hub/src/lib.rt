@@ -1,0 +1,289 @@
+// The hub's list: whether a list of keys holds every maximal set once and nothing else.
+// The list is itself the keys of a store: a search tree over it, whose links lie in arrays of the call, finds repeats and answers every search.
+ghost use mathlib.Core.Path.{_≡_};
+ghost use mathlib.Core.Bool.{false};
+ghost use mathlib.Core.List.{[]};
+ghost use Prim.Native.Nat.{_≤_, _<_};
+ghost use lib.ListN.{length, getD};
+ghost use Rattle.keys.specs.Keys.{bitsPerRow, mostTables, keyOf};
+ghost use Rattle.sets.specs.Promises.{LaidOut};
+ghost use Rattle.tables.specs.Checks.{Lawful};
+ghost use Rattle.disjunction.specs.Sets.{Maximal};
+ghost use Rattle.disjunction.specs.Rule.{rows, trial};
+ghost use Rattle.disjunction.specs.Standing.{givesBack, standing};
+ghost use Rattle.rows.specs.World.{worldOf, setOf, placeOf};
+ghost use Rattle.rows.specs.Named.{Named, There};
+ghost use Rattle.store.specs.Good.{Key};
+ghost use Rattle.hub.specs.Verdicts.{seek, tried, triedOn, verdict, Sound};
+ghost use Rattle.hub.specs.Promises.{wordSet, wordSets, among, answerOf, outOf, Linked, recordsOf, Enters, Spoils, checked, ChecksList};
+use sets::Layout;
+use store::Looked;
+use tables::Catalogue;
+use tables::Row;
+
+// The most records of a tree: a link is a place plus 1 in 16 bits.
+const MOST_RECORDS: usize = 65535;
+
+// The answer on a list: yes; no, by the entry at a place, from 0; no, by the key of a set that is not listed; or the number of a refusal.
+pub enum ListVerdict {
+    Right,
+    Entry(usize),
+    Missing(u64),
+    Refused(usize),
+}
+
+// Whether the trial of the set's own row in table t gives the set back; where it has no row of t, nothing is tried.
+fn gives_back(cat: Catalogue, cells: &[u64], layout: Layout, key: u64, t: usize) -> bool
+    requires { ⌜ Lawful cat (length (now cells)) × LaidOut cat (now cells) layout × Named cat key × (t < cat .n) ⌝ }
+    ensures { λ r. ⌜ r ≡ givesBack (worldOf cat (now (cells .entry))) (setOf cat key) t ⌝ }
+{
+    let row = keys::row_of(key, t) as usize;
+    if row == 0 {
+        return true;
+    }
+    let g = sets::trial_set(cat, cells, layout, key, Row { table: t, row });
+    if g.key == key {
+        return true;
+    }
+    false
+}
+
+// Whether a listed word is the key of a maximal set: it names rows, and the trial of each of them gives the set back.
+// No test for consistent or connected rows is made; the trials tell.
+fn is_maximal(cat: Catalogue, cells: &[u64], layout: Layout, word: u64) -> bool
+    requires { ⌜ Lawful cat (length (now cells)) × LaidOut cat (now cells) layout ⌝ }
+    ensures { λ r. ⌜ r ≡ standing (worldOf cat (now (cells .entry))) (wordSet cat word) ⌝ }
+{
+    if !rows::key_named(cat, word) {
+        return false;
+    }
+    let n = cat.n;
+    let mut t: usize = 0;
+    while t < n {
+        if !gives_back(cat, cells, layout, word, t) {
+            return false;
+        }
+        t += 1;
+    }
+    true
+}
+
+// Whether one of the words before place `to` is this one, where none before place `from` is.
+// Only words past the last record of the tree are looked through so.
+fn among_from(listed: &[u64], from: usize, to: usize, word: u64) -> bool
+    requires { ⌜ (from ≤ to) × (to ≤ length (now listed)) ⌝ }
+    ensures { λ r. ⌜ (among (now (listed .entry)) from word ≡ false → r ≡ among (now (listed .entry)) to word) ⌝ }
+{
+    let mut i = from;
+    while i < to {
+        if listed[i] == word {
+            return true;
+        }
+        i += 1;
+    }
+    false
+}
+
+// How many of so many words have a record in the tree.
+fn records_of(words: usize) -> usize
+    ensures { λ r. ⌜ r ≡ recordsOf words ⌝ }
+{
+    if words < MOST_RECORDS {
+        words
+    } else {
+        MOST_RECORDS
+    }
+}
+
+// Whether one of the words before place `to` is this one: a search of the tree, and for those without a record a look at each.
+fn in_list(listed: &[u64], left: &[u16], right: &[u16], n: usize, to: usize, word: u64) -> bool
+    requires { ⌜ (n ≤ mostTables) × (to ≤ length (now listed)) × Key bitsPerRow n word × Linked n (now listed) (now left) (now right) (recordsOf to) ⌝ }
+    ensures { λ r. ⌜ r ≡ among (now (listed .entry)) to word ⌝ }
+{
+    if to == 0 {
+        return false;
+    }
+    let built = records_of(to);
+    let bits = keys::key_bits(n);
+    match store::find(listed, left, right, built, word, bits) {
+        Looked::Found { place: _, looks: _ } => true,
+        Looked::Absent {
+            place: _,
+            side: _,
+            looks: _,
+        } => among_from(listed, built, to, word),
+        Looked::Damaged { looks: _ } => false,
+    }
+}
+
+// Whether entry i repeats an earlier one; if not, it comes into the tree, where there is a record for it.
+fn enter(listed: &[u64], left: &mut [u16], right: &mut [u16], n: usize, i: usize) -> bool
+    requires { ⌜ (n ≤ mostTables) × (i < length (now listed)) × Key bitsPerRow n (getD (now listed) i 0) × Linked n (now listed) (now left) (now right) (recordsOf i) ⌝ }
+    ensures { λ r. ⌜ Enters n (now (listed .entry)) i r (now (left .exit)) (now (right .exit)) ⌝ }
+{
+    let word = listed[i];
+    if i == 0 {
+        return false;
+    }
+    if MOST_RECORDS <= i {
+        return in_list(listed, left, right, n, i, word);
+    }
+    let bits = keys::key_bits(n);
+    match store::find(listed, left, right, i, word, bits) {
+        Looked::Found { place: _, looks: _ } => true,
+        Looked::Absent {
+            place,
+            side,
+            looks: _,
+        } => {
+            store::hang(left, right, place, side, i);
+            false
+        }
+        Looked::Damaged { looks: _ } => true,
+    }
+}
+
+// The first entry that is not a maximal set or repeats an earlier one; the list's length where there is none, and then all are in the tree.
+fn first_spoilt(
+    cat: Catalogue,
+    cells: &[u64],
+    layout: Layout,
+    listed: &[u64],
+    left: &mut [u16],
+    right: &mut [u16],
+) -> usize
+    requires { ⌜ Lawful cat (length (now cells)) × LaidOut cat (now cells) layout × Linked (cat .n) (now listed) (now left) (now right) 0 ⌝ }
+    ensures { λ r. ⌜ Spoils cat (now (cells .entry)) (now (listed .entry)) r (now (left .exit)) (now (right .exit)) ⌝ }
+{
+    let n = cat.n;
+    let count = listed.len();
+    let mut i: usize = 0;
+    while i < count {
+        let word = listed[i];
+        if !is_maximal(cat, cells, layout, word) {
+            return i;
+        }
+        if enter(listed, left, right, n, i) {
+            return i;
+        }
+        i += 1;
+    }
+    count
+}
+
+// The key of the set that the trial of a row on a maximal set comes to.
+// A row of the set itself gives the set back, so that no trial is made twice.
+fn reached_by(cat: Catalogue, cells: &[u64], layout: Layout, key: u64, row: Row) -> u64
+    requires { ⌜ Lawful cat (length (now cells)) × LaidOut cat (now cells) layout × Named cat key × There cat (row .table) (row .row) × Maximal (worldOf cat (now cells)) (setOf cat key) ⌝ }
+    ensures { λ k. ⌜ k ≡ keyOf bitsPerRow (trial (worldOf cat (now (cells .entry))) (setOf cat key) (placeOf row) .rows) ⌝ }
+{
+    let table = row.table;
+    if keys::row_of(key, table) as usize == row.row {
+        return key;
+    }
+    let g = sets::trial_set(cat, cells, layout, key, row);
+    g.key
+}
+
+// The key of the first set that the trials of all rows on a listed set reach and that is not listed; 0 where there is none.
+fn first_out(
+    cat: Catalogue,
+    cells: &[u64],
+    layout: Layout,
+    listed: &[u64],
+    left: &[u16],
+    right: &[u16],
+    key: u64,
+) -> u64
+    requires { ⌜ Lawful cat (length (now cells)) × LaidOut cat (now cells) layout × Named cat key × Maximal (worldOf cat (now cells)) (setOf cat key) × Sound (worldOf cat (now cells)) (wordSets cat (now listed)) × Linked (cat .n) (now listed) (now left) (now right) (recordsOf (length (now listed))) ⌝ }
+    ensures { λ r. ⌜ r ≡ outOf (seek (wordSets cat (now (listed .entry))) (tried (worldOf cat (now (cells .entry))) (setOf cat key) (rows (worldOf cat (now (cells .entry)))))) ⌝ }
+{
+    let n = cat.n;
+    let count = listed.len();
+    let total = tables::total_rows(cat);
+    let mut j: usize = 0;
+    while j < total {
+        let row = tables::row_at(cat, j);
+        let to = reached_by(cat, cells, layout, key, row);
+        if !in_list(listed, left, right, n, count, to) {
+            return to;
+        }
+        j += 1;
+    }
+    0
+}
+
+// The key of the first set not listed that the trials over the listed sets reach, entries in the hub's order and rows in row order; 0 where there is none.
+fn first_missing(
+    cat: Catalogue,
+    cells: &[u64],
+    layout: Layout,
+    listed: &[u64],
+    left: &[u16],
+    right: &[u16],
+) -> u64
+    requires { ⌜ Lawful cat (length (now cells)) × LaidOut cat (now cells) layout × Sound (worldOf cat (now cells)) (wordSets cat (now listed)) × Linked (cat .n) (now listed) (now left) (now right) (recordsOf (length (now listed))) ⌝ }
+    ensures { λ r. ⌜ r ≡ outOf (seek (wordSets cat (now (listed .entry))) (triedOn (worldOf cat (now (cells .entry))) (wordSets cat (now (listed .entry))))) ⌝ }
+{
+    let count = listed.len();
+    let mut i: usize = 0;
+    while i < count {
+        let key = listed[i];
+        let out = first_out(cat, cells, layout, listed, left, right, key);
+        if out != 0 {
+            return out;
+        }
+        i += 1;
+    }
+    0
+}
+
+// The verdict on the empty list: right where there is no row, else the first row's extension is missing.
+fn judge_none(cat: Catalogue, cells: &[u64], layout: Layout) -> ListVerdict
+    requires { ⌜ Lawful cat (length (now cells)) × LaidOut cat (now cells) layout ⌝ }
+    ensures { λ r. ⌜ r ≡ answerOf (verdict (worldOf cat (now (cells .entry))) []) ⌝ }
+{
+    let total = tables::total_rows(cat);
+    if total == 0 {
+        return ListVerdict::Right;
+    }
+    let first = tables::row_at(cat, 0);
+    let alone = keys::with_row(0, first.table, first.row as u64);
+    let g = sets::extend(cat, cells, layout, alone, 0);
+    ListVerdict::Missing(g.key)
+}
+
+// The verdict on a list, behind the catalogue's refusals: the entries first, then what their trials reach.
+fn judge(cat: Catalogue, cells: &[u64], listed: &[u64]) -> ListVerdict
+    requires { ⌜ Lawful cat (length (now cells)) ⌝ }
+    ensures { λ r. ⌜ r ≡ answerOf (verdict (worldOf cat (now (cells .entry))) (wordSets cat (now (listed .entry)))) ⌝ }
+{
+    let count = listed.len();
+    let layout = sets::laid_out(cat, cells, count);
+    if count == 0 {
+        return judge_none(cat, cells, layout);
+    }
+    let mut left: [u16; 65535] = [0; 65535];
+    let mut right: [u16; 65535] = [0; 65535];
+    let spoilt = first_spoilt(cat, cells, layout, listed, &mut left, &mut right);
+    if spoilt < count {
+        return ListVerdict::Entry(spoilt);
+    }
+    let out = first_missing(cat, cells, layout, listed, &left, &right);
+    if out == 0 {
+        return ListVerdict::Right;
+    }
+    ListVerdict::Missing(out)
+}
+
+// Checks the hub's list: whether it holds every maximal set once and nothing else, in any order.
+// Any words may be listed, and the list may have any length.
+pub fn check_list(cat: Catalogue, cells: &[u64], listed: &[u64]) -> ListVerdict
+    ensures { λ r. ⌜ ChecksList cat (now (cells .entry)) (now (listed .entry)) r ⌝ }
+{
+    let f = tables::fault(cat, cells.len());
+    if f != 0 {
+        return ListVerdict::Refused(f);
+    }
+    judge(cat, cells, listed)
+}

@@ -1,0 +1,4 @@
+pub mod ReadingLaws
+pub mod LoadLaws
+pub mod SoundLaws
+pub mod PlaceLaws

@@ -1,0 +1,119 @@
+-- `loader::scanner::scan_tables` meets its contract. Invariant: the whole answer is the answer from table t on. Assumes nothing.
+use Rattle.loader.specs.Load.{tablesFrom}
+use Rattle.tables.specs.Sizes.{mostCells}
+use Rattle.loader.proofs.LoadLaws.{good-table, good-clear, tables-over, tables-end, tables-bad, tables-more}
+use lib.ListN.{length, replicate, length-set}
+use Prim.Native.Nat.{_+_, _-_, _≤_}
+use mathlib.Core.Path.{_≡_, refl, sym, _∙_}
+use borrow.Author.Needs.{needs}
+use native.Mathlib.Omega.{arith}
+use denote.Ref.{now}
+use Rattle.loader.proofs.scanner.scan_tables.Statement.{statement}
+use Rattle.loader.proofs.scanner.scan_tables.Tie as tie
+
+abbrev Inv-loop : tie.InvT-loop
+Inv-loop s room m n at schemes₀ rows₀ left₀ t₀ used₀ i₀ schemes rows left t used i =
+    (tablesFrom n s room m n 0 0 (replicate 8 0) (replicate 8 0) at ≡ tablesFrom left s room m n t used schemes rows i)
+    × (t + left ≡ n) × (used ≤ mostCells) × (length schemes ≡ 8) × (length rows ≡ 8)
+
+abbrev μ-loop : tie.MeasureT-loop
+μ-loop s room m n at schemes₀ rows₀ left₀ t₀ used₀ i₀ schemes rows left t used i = left
+
+loop-holds : tie.Need-loop-holds Inv-loop μ-loop
+loop-holds c = (refl, omega arith, omega arith, refl, refl)
+
+table-at-requires : tie.Need-table-at-requires Inv-loop μ-loop
+table-at-requires c κs = search needs
+
+enum-known-x : tie.Need-enum-known-x Inv-loop μ-loop
+enum-known-x c = search needs
+
+mul-schemes : tie.Need-mul-schemes Inv-loop μ-loop
+mul-schemes c = search needs
+
+array-write-schemes : tie.Need-array-write-schemes Inv-loop μ-loop
+array-write-schemes c = search needs
+
+mul-rows : tie.Need-mul-rows Inv-loop μ-loop
+mul-rows c = search needs
+
+array-write-rows : tie.Need-array-write-rows Inv-loop μ-loop
+array-write-rows c = search needs
+
+add-t : tie.Need-add-t Inv-loop μ-loop
+add-t c = search needs
+
+sub-left : tie.Need-sub-left Inv-loop μ-loop
+sub-left c = search needs
+
+loop-less : tie.Need-loop-less Inv-loop μ-loop
+loop-less c = search needs
+
+loop-again : tie.Need-loop-again Inv-loop μ-loop
+loop-again c =
+    let l = c .before .before .before .before .before .loop in
+    let a = c .before .before .before .before .before .before .before .args in
+    let x = c .before .x .given in
+    let e = sym (c .before .before .before .table-at .ensures) ∙ x .1 in
+    let g = good-table (now (a .s)) (a .room) (a .m) (l .used) (l .i) _ _ _ _ e in (
+      l .inv .0 ∙ tables-more (now (a .s)) (a .room) (a .m) (a .n) (l .t) (l .used) (l .schemes) (l .rows) (l .i) (l .left) _ _ _ _ (omega arith) e,
+      omega arith,
+      rw (g .cells) (good-clear _ _ _ _ _ _ _ _ _ g .most),
+      simp length-set (l .inv .3),
+      simp length-set (l .inv .4),
+    )
+
+enum-known-f : tie.Need-enum-known-f Inv-loop μ-loop
+enum-known-f c = search needs
+
+refuse-requires : tie.Need-refuse-requires Inv-loop μ-loop
+refuse-requires c κs = search needs
+
+returns : tie.Need-returns Inv-loop μ-loop
+returns c =
+    let l = c .before .before .before .before .before .before .loop in
+    let a = c .before .before .before .before .before .before .before .before .args in
+    c .refuse .ensures ∙ sym (l .inv .0 ∙ tables-bad (now (a .s)) (a .room) (a .m) (a .n) (l .t) (l .used) (l .schemes) (l .rows) (l .i) (l .left) _ (omega arith) (sym (c .before .before .before .before .table-at .ensures) ∙ c .before .before .f .given .1))
+
+refusal-at-requires : tie.Need-refusal-at-requires Inv-loop μ-loop
+refusal-at-requires c κs = search needs
+
+refuse-requires-2 : tie.Need-refuse-requires-2 Inv-loop μ-loop
+refuse-requires-2 c κs = search needs
+
+returns-2 : tie.Need-returns-2 Inv-loop μ-loop
+returns-2 c =
+    let l = c .before .before .before .before .loop in
+    let a = c .before .before .before .before .before .before .args in
+    c .refuse2 .ensures ∙ rw (c .before .refusal-at .ensures) (sym (l .inv .0 ∙ tables-over (now (a .s)) (a .room) (a .m) (a .n) (l .t) (l .used) (l .schemes) (l .rows) (l .i) (l .left) (omega arith) (c .before .before .if1 .taken)))
+
+returns-3 : tie.Need-returns-3 Inv-loop μ-loop
+returns-3 c =
+    let l = c .before .before .loop in
+    let a = c .before .before .before .before .args in
+    sym (l .inv .0 ∙ tables-end (now (a .s)) (a .room) (a .m) (a .n) (l .t) (l .used) (l .schemes) (l .rows) (l .i) (l .left) (omega arith) (c .if1 .left))
+
+pub scan-tables-spec : {M : Type 1} → statement M
+scan-tables-spec =
+    tie.close
+    (tie.spec
+    Inv-loop
+    μ-loop
+    loop-holds
+    table-at-requires
+    enum-known-x
+    mul-schemes
+    array-write-schemes
+    mul-rows
+    array-write-rows
+    add-t
+    sub-left
+    loop-less
+    loop-again
+    enum-known-f
+    refuse-requires
+    returns
+    refusal-at-requires
+    refuse-requires-2
+    returns-2
+    returns-3)

@@ -1,0 +1,239 @@
+// The loader's first pass: it reads and checks the image, and writes nothing. The C door is this pass alone.
+ghost use mathlib.Core.Path.{_≡_};
+ghost use mathlib.Core.Bool.{true};
+ghost use lib.ListN.{replicate};
+ghost use Prim.Native.Nat.{_<_, _≤_};
+ghost use lib.Count.{ones};
+ghost use Rattle.tables.specs.Sizes.{mostCells, mostTables};
+ghost use Rattle.tables.specs.Rows.{below};
+ghost use Rattle.loader.specs.Reading.{refusalAt, runEnd, codes, rowsFrom};
+ghost use Rattle.loader.specs.Load.{refused, fieldAt, entryOf, countAt, tableAt, tablesFrom, scanOf};
+use super::Entry;
+use super::Fault;
+use super::Field;
+use super::Loaded;
+use super::Verdict;
+use super::Walk;
+use numbers::Reading;
+use tables::Catalogue;
+
+// The refusal k at a place.
+pub fn refusal_at(k: usize, p: usize) -> Fault
+    ensures { λ r. ⌜ r ≡ refusalAt k p ⌝ }
+{
+    Fault {
+        refusal: k,
+        place: p,
+    }
+}
+
+// The end of so many numbers from a place on, or the first that is refused.
+fn run_end(s: &[u8], at: usize, count: usize) -> Walk
+    ensures { λ r. ⌜ r ≡ runEnd count (now (s .entry)) at ⌝ }
+{
+    let mut i = at;
+    let mut left = count;
+    while 0 < left {
+        match numbers::read(s, i) {
+            Reading::Number(_, n) => {
+                i = n;
+                left = left - 1;
+            }
+            Reading::NumberFault(k) => {
+                return Walk::WalkFault(refusal_at(k, i));
+            }
+        }
+    }
+    Walk::To(i)
+}
+
+// Whether the row at place p lies strictly below the row at place q.
+// Both are read again, so that no row has to be kept.
+fn rises(s: &[u8], p: usize, q: usize, width: usize) -> bool
+    ensures { λ r. ⌜ r ≡ below (codes width (now (s .entry)) p) (codes width (now (s .entry)) q) ⌝ }
+{
+    let mut i = p;
+    let mut j = q;
+    let mut left = width;
+    while 0 < left {
+        let Reading::Number(x, n) = numbers::read(s, i) else {
+            return false;
+        };
+        let Reading::Number(y, m) = numbers::read(s, j) else {
+            return false;
+        };
+        if x < y {
+            return true;
+        }
+        if y < x {
+            return false;
+        }
+        i = n;
+        j = m;
+        left = left - 1;
+    }
+    false
+}
+
+// The end of a table's rows, each strictly above the one before.
+fn rows_end(s: &[u8], at: usize, rows: usize, width: usize) -> Walk
+    ensures { λ r. ⌜ r ≡ rowsFrom rows width (now (s .entry)) true 0 at ⌝ }
+{
+    let mut first = true;
+    let mut before: usize = 0;
+    let mut i = at;
+    let mut left = rows;
+    while 0 < left {
+        match run_end(s, i, width) {
+            Walk::To(n) => {
+                if first || rises(s, before, i, width) {
+                    first = false;
+                    before = i;
+                    i = n;
+                    left = left - 1;
+                } else {
+                    return Walk::WalkFault(refusal_at(7, i));
+                }
+            }
+            Walk::WalkFault(f) => {
+                return Walk::WalkFault(f);
+            }
+        }
+    }
+    Walk::To(i)
+}
+
+// The rows of a table whose scheme and count are good; `used` cells lie behind them.
+fn rows_entry(s: &[u8], scheme: u64, rows: u16, used: usize, at: usize) -> Entry
+    ensures { λ r. ⌜ r ≡ entryOf scheme rows used (rowsFrom rows (ones scheme) (now (s .entry)) true 0 at) ⌝ }
+{
+    let width = tables::width(scheme);
+    match rows_end(s, at, rows as usize, width) {
+        Walk::To(n) => Entry::Table(scheme, rows, used, n),
+        Walk::WalkFault(f) => Entry::TableFault(f),
+    }
+}
+
+// A table behind its scheme: its row count, then its rows.
+fn count_at(s: &[u8], room: usize, scheme: u64, used: usize, at: usize) -> Entry
+    requires { ⌜ used ≤ mostCells ⌝ }
+    ensures { λ r. ⌜ r ≡ countAt (now (s .entry)) room scheme used at ⌝ }
+{
+    match numbers::read(s, at) {
+        Reading::Number(rows, n) => {
+            let f = tables::count_fault(room, used, scheme, rows);
+            if f != 0 {
+                return Entry::TableFault(refusal_at(f, at));
+            }
+            let cells = used + (rows as usize) * tables::width(scheme);
+            rows_entry(s, scheme, rows as u16, cells, n)
+        }
+        Reading::NumberFault(k) => Entry::TableFault(refusal_at(k, at)),
+    }
+}
+
+// A table from a place on: its scheme, its row count, its rows.
+// Each number is judged as soon as it is read, so that the first fault is the one reported.
+fn table_at(s: &[u8], room: usize, m: usize, used: usize, at: usize) -> Entry
+    requires { ⌜ (m < 64) × (used ≤ mostCells) ⌝ }
+    ensures { λ r. ⌜ r ≡ tableAt (now (s .entry)) room m used at ⌝ }
+{
+    match numbers::read(s, at) {
+        Reading::Number(scheme, n) => {
+            if tables::scheme_bad(m, scheme) {
+                return Entry::TableFault(refusal_at(5, at));
+            }
+            count_at(s, room, scheme, used, n)
+        }
+        Reading::NumberFault(k) => Entry::TableFault(refusal_at(k, at)),
+    }
+}
+
+// A refused load: its fault and a catalogue of zeros.
+fn refuse(f: Fault) -> Loaded
+    ensures { λ r. ⌜ r ≡ refused f ⌝ }
+{
+    Loaded {
+        verdict: Verdict::Refused(f),
+        catalogue: Catalogue {
+            m: 0,
+            n: 0,
+            schemes: [0; 8],
+            rows: [0; 8],
+        },
+    }
+}
+
+// The tables from a place on, one after the other, and nothing behind them.
+fn scan_tables(s: &[u8], room: usize, m: usize, n: usize, at: usize) -> Loaded
+    requires { ⌜ (m < 64) × (n ≤ mostTables) ⌝ }
+    ensures { λ r. ⌜ r ≡ tablesFrom n (now (s .entry)) room m n 0 0 (replicate 8 0) (replicate 8 0) at ⌝ }
+{
+    let mut schemes = [0u64; 8];
+    let mut rows = [0u16; 8];
+    let mut left = n;
+    let mut t: usize = 0;
+    let mut used: usize = 0;
+    let mut i = at;
+    while 0 < left {
+        match table_at(s, room, m, used, i) {
+            Entry::Table(x, c, u, e) => {
+                schemes[t] = x;
+                rows[t] = c;
+                used = u;
+                i = e;
+                t = t + 1;
+                left = left - 1;
+            }
+            Entry::TableFault(f) => {
+                return refuse(f);
+            }
+        }
+    }
+    if i < s.len() {
+        return refuse(refusal_at(9, i));
+    }
+    Loaded {
+        verdict: Verdict::Good,
+        catalogue: Catalogue {
+            m,
+            n,
+            schemes,
+            rows,
+        },
+    }
+}
+
+// A number of the head that is to lie in a range, else the refusal k.
+fn field_at(s: &[u8], at: usize, low: u64, high: u64, k: usize) -> Field
+    ensures { λ r. ⌜ r ≡ fieldAt (now (s .entry)) at low high k ⌝ }
+{
+    match numbers::read(s, at) {
+        Reading::Number(x, n) => {
+            if x < low {
+                return Field::FieldFault(refusal_at(k, at));
+            }
+            if high < x {
+                return Field::FieldFault(refusal_at(k, at));
+            }
+            Field::Value(x, n)
+        }
+        Reading::NumberFault(f) => Field::FieldFault(refusal_at(f, at)),
+    }
+}
+
+// The whole first pass over an image for which `room` cells are lent: version, m, n, and the tables.
+pub fn scan(s: &[u8], room: usize) -> Loaded
+    ensures { λ r. ⌜ r ≡ scanOf (now (s .entry)) room ⌝ }
+{
+    match field_at(s, 0, 1, 1, 3) {
+        Field::Value(_, i) => match field_at(s, i, 1, 63, 4) {
+            Field::Value(m, j) => match field_at(s, j, 1, 8, 4) {
+                Field::Value(n, k) => scan_tables(s, room, m as usize, n as usize, k),
+                Field::FieldFault(f) => refuse(f),
+            },
+            Field::FieldFault(f) => refuse(f),
+        },
+        Field::FieldFault(f) => refuse(f),
+    }
+}

@@ -1,0 +1,150 @@
+-- `writer::putter::put_image` meets its contract. Invariant: the tables that are left, from the cursor on, make the whole answer. Assumes nothing.
+use borrow.Author.Needs.{needs}
+use native.Mathlib.Omega.{arith}
+use Prim.Native.Nat.{ℕ, _+_, _-_, _≤_}
+use mathlib.Core.Path.{_≡_, refl, sym, ap, _∙_}
+use mathlib.Core.List.{List}
+use lib.ListN.{length}
+use Rattle.laws.specs.Lists.{put, over}
+use Rattle.laws.proofs.ListLaws.{put-nil}
+use Rattle.tables.specs.Sizes.{mostTables}
+use Rattle.tables.specs.Catalogues.{firstCell}
+use Rattle.writer.specs.Write.{tablesImage, imageOf}
+use Rattle.writer.proofs.AcceptLaws.{fault-accepted}
+use Rattle.laws.proofs.PlacedLaws.{placed-length, placed-rest}
+use Rattle.writer.proofs.WriteLaws.{tableBytes, headBytes, head-three, Table, table-good, head-length, image-none, image-head}
+use Rattle.writer.proofs.putter.put_image.Statement.{statement}
+use Rattle.writer.proofs.putter.put_image.Tie as tie
+
+abbrev Inv-loop : tie.InvT-loop
+Inv-loop cells out₀ cat n at₀ used₀ t₀ out at used t =
+    (t ≤ n)
+    × (used ≡ firstCell cat t)
+    × (length out ≡ length out₀)
+    × (at + length (tablesImage (n - t) cat cells t) ≡ length (imageOf cat cells))
+    × (over at₀ (tablesImage n cat cells 0) out₀ ≡ over at (tablesImage (n - t) cat cells t) out)
+    × (n ≤ mostTables)
+
+abbrev μ-loop : tie.MeasureT-loop
+μ-loop cells out₀ cat n at₀ used₀ t₀ out at used t = n - t
+
+-- There is room for the head.
+room : (c : tie.After-put-head Inv-loop μ-loop) → 0 + length (headBytes (c .before .before .before .before .args .t1)) ≤ length (c .before .before .before .before .args .out .now)
+room c =
+    let p = c .before .before .before .before in
+    omega (arith, head-three (p .args .t1), head-length (p .args .t1) (p .args .cells .now), p .pre .1)
+
+-- What the table at hand has,
+here : (c : tie.After-width Inv-loop μ-loop)
+    → (let a = c .before .before .before .before .before .before .before .before .before .before .before .args in
+    let l = c .before .before .before .before .loop in
+    Table (a .t1) (a .cells .now) (l .t) (l .used) (c .width .result))
+here c =
+    let l = c .before .before .before .before .loop in
+    table-good _ _ (c .before .before .before .before .before .before .before .before .before .before .before .pre .0) (l .t) (l .used) (c .width .result) (omega (arith, c .before .before .before .loop-test .taken)) (l .inv .1) (c .width .ensures)
+
+-- and there is room for it.
+fits : (c : tie.After-width Inv-loop μ-loop)
+    → (let a = c .before .before .before .before .before .before .before .before .before .before .before .args in
+    let l = c .before .before .before .before .loop in
+    l .at + length (tableBytes (a .t1) (a .cells .now) (l .t) (l .used) (c .width .result)) ≤ length (l .out))
+fits c =
+    let l = c .before .before .before .before .loop in
+    let h = c .before .before .before .before .before .before .before in
+    omega (arith, here c .size, l .inv .2, l .inv .3, placed-length (room h) (h .put-head .ensures), c .before .before .before .before .before .before .before .before .before .before .before .pre .1)
+
+put-head-requires : tie.Need-put-head-requires Inv-loop μ-loop
+put-head-requires c κs =
+    let p = c .before .before .before in
+    let L = fault-accepted _ _ (p .pre .0) .lawful in
+    (omega (arith, L .attributes), omega (arith, L .tables), omega (arith, head-length (p .args .t1) (p .args .cells .now), p .pre .1))
+
+loop-holds : tie.Need-loop-holds Inv-loop μ-loop
+unfolding firstCell
+loop-holds c =
+    let p = c .before .before .before .before .before .before in
+    let cat = p .args .t1 in
+    let h = c .before .before .put-head .ensures in
+    let e : cat .n - 0 ≡ cat .n = omega arith in
+    (omega arith, refl, refl, rw e (omega (arith, h .next, head-three cat, head-length cat (p .args .cells .now))), rw e, fault-accepted _ _ (p .pre .0) .lawful .tables)
+
+mul-scheme : tie.Need-mul-scheme Inv-loop μ-loop
+mul-scheme c = search needs
+
+element-copy-out-scheme : tie.Need-element-copy-out-scheme Inv-loop μ-loop
+element-copy-out-scheme c = search needs
+
+mul-rows : tie.Need-mul-rows Inv-loop μ-loop
+mul-rows c = search needs
+
+element-copy-out-rows : tie.Need-element-copy-out-rows Inv-loop μ-loop
+element-copy-out-rows c = search needs
+
+cast-count : tie.Need-cast-count Inv-loop μ-loop
+cast-count c = search needs
+
+width-requires : tie.Need-width-requires Inv-loop μ-loop
+width-requires c κs = search needs
+
+mul-count : tie.Need-mul-count Inv-loop μ-loop
+mul-count c = omega (arith, here c .most)
+
+cast-put-table : tie.Need-cast-put-table Inv-loop μ-loop
+cast-put-table c = search needs
+
+put-table-requires : tie.Need-put-table-requires Inv-loop μ-loop
+put-table-requires c κs =
+    let g = here (c .before) in
+    (g .scheme, omega (arith, g .rows), g .inside, g .low, omega (arith, g .three, fits (c .before)))
+
+add-used : tie.Need-add-used Inv-loop μ-loop
+add-used c = omega (arith, here (c .before .before .before .before) .most)
+
+add-t : tie.Need-add-t Inv-loop μ-loop
+add-t c = search needs
+
+loop-less : tie.Need-loop-less Inv-loop μ-loop
+loop-less c = search needs
+
+loop-again : tie.Need-loop-again Inv-loop μ-loop
+loop-again c =
+    let l = c .before .before .before .before .before .before .before .before .loop in
+    let w = c .before .before .put-table .ensures in
+    let g = here (c .before .before .before .before) in
+    let f = fits (c .before .before .before .before) in
+    (omega arith, g .next, placed-length f w ∙ l .inv .2, omega (arith, w .next, g .size, l .inv .3), l .inv .4 ∙ rw (g .bytes) (placed-rest f w _), l .inv .5)
+
+same-length : tie.Need-same-length Inv-loop μ-loop
+same-length c = search needs
+
+returns : tie.Need-returns Inv-loop μ-loop
+returns c =
+    let l = c .before .loop in
+    let h = c .before .before .before .before in
+    let a = h .before .before .before .before .args in
+    let whole = ap (λ (bs : List ℕ). put bs (a .out .now)) (image-head (a .t1) (a .cells .now)) ∙ placed-rest (room h) (h .put-head .ensures) (tablesImage (a .t1 .n) (a .t1) (a .cells .now) 0) in
+    sym (whole ∙ l .inv .4 ∙ rw (image-none (a .t1) (a .cells .now) (a .t1 .n - l .t) (l .t) (omega arith)) (put-nil (l .out) (l .at)))
+
+pub put-image-spec : {M : Type 1} → statement M
+put-image-spec =
+    tie.close
+    (tie.spec
+    Inv-loop
+    μ-loop
+    put-head-requires
+    loop-holds
+    mul-scheme
+    element-copy-out-scheme
+    mul-rows
+    element-copy-out-rows
+    cast-count
+    width-requires
+    mul-count
+    cast-put-table
+    put-table-requires
+    add-used
+    add-t
+    loop-less
+    loop-again
+    same-length
+    returns)

@@ -1,0 +1,145 @@
+// The writer's first pass: which refusal the tables meet, and how long their image is. It writes nothing.
+ghost use mathlib.Core.Path.{_≡_};
+ghost use mathlib.Core.Bool.{true, false};
+ghost use Prim.Native.Nat.{_+_, _*_, _≤_};
+ghost use lib.ListN.{length};
+ghost use Rattle.laws.specs.Lists.{part};
+ghost use Rattle.tables.specs.Sizes.{mostCells};
+ghost use Rattle.tables.specs.Rows.{below};
+ghost use Rattle.writer.specs.Write.{encodes, imageOf, tooHigh, rowsFault, writeFault};
+use tables::Catalogue;
+
+// Whether a code of the row that begins at a cell is 2^63 or more.
+fn code_high(cells: &[u64], at: usize, width: usize) -> bool
+    requires { ⌜ at + width ≤ length (now cells) ⌝ }
+    ensures { λ r. ⌜ r ≡ tooHigh (part at width (now (cells .entry))) ⌝ }
+{
+    let mut i = at;
+    let mut left = width;
+    while 0 < left {
+        if 9223372036854775808 <= cells[i] {
+            return true;
+        }
+        i = i + 1;
+        left = left - 1;
+    }
+    false
+}
+
+// Whether the row that begins at cell `before` lies strictly below the one at `at`.
+fn rises(cells: &[u64], before: usize, at: usize, width: usize) -> bool
+    requires { ⌜ (before + width ≤ length (now cells)) × (at + width ≤ length (now cells)) ⌝ }
+    ensures { λ r. ⌜ r ≡ below (part before width (now (cells .entry))) (part at width (now (cells .entry))) ⌝ }
+{
+    let mut i = before;
+    let mut j = at;
+    let mut left = width;
+    while 0 < left {
+        let x = cells[i];
+        let y = cells[j];
+        if x < y {
+            return true;
+        }
+        if y < x {
+            return false;
+        }
+        i = i + 1;
+        j = j + 1;
+        left = left - 1;
+    }
+    false
+}
+
+// 10 or 7 for the rows of a table whose cells begin at `start`, else 0.
+fn rows_fault(cells: &[u64], start: usize, rows: usize, width: usize) -> usize
+    requires { ⌜ start + rows * width ≤ length (now cells) ⌝ }
+    ensures { λ r. ⌜ r ≡ rowsFault rows width (now (cells .entry)) true 0 start ⌝ }
+{
+    let mut first = true;
+    let mut before: usize = 0;
+    let mut at = start;
+    let mut left = rows;
+    while 0 < left {
+        if code_high(cells, at, width) {
+            return 10;
+        }
+        if first || rises(cells, before, at, width) {
+            first = false;
+            before = at;
+            at = at + width;
+            left = left - 1;
+        } else {
+            return 7;
+        }
+    }
+    0
+}
+
+// The first refusal of the tables (4; then table by table 5, 6, 8, 10, 7), or 0.
+pub fn fault(cat: Catalogue, cells: &[u64]) -> usize
+    ensures { λ r. ⌜ r ≡ writeFault cat (now (cells .entry)) ⌝ }
+{
+    let m = cat.m;
+    let n = cat.n;
+    let sizes = tables::size_fault(m, n);
+    if sizes != 0 {
+        return sizes;
+    }
+    let mut used: usize = 0;
+    let mut t: usize = 0;
+    while t < n {
+        let scheme = cat.schemes[t];
+        let rows = cat.rows[t];
+        let f = tables::table_fault(m, cells.len(), used, scheme, rows as u64);
+        if f != 0 {
+            return f;
+        }
+        let width = tables::width(scheme);
+        let g = rows_fault(cells, used, rows as usize, width);
+        if g != 0 {
+            return g;
+        }
+        used = used + (rows as usize) * width;
+        t = t + 1;
+    }
+    0
+}
+
+// How many bytes so many cells take as numbers.
+fn run_size(cells: &[u64], from: usize, count: usize) -> usize
+    requires { ⌜ (from + count ≤ length (now cells)) × (count ≤ mostCells) × (tooHigh (part from count (now cells)) ≡ false) ⌝ }
+    ensures { λ r. ⌜ r ≡ length (encodes (part from count (now (cells .entry)))) ⌝ }
+{
+    let mut sum: usize = 0;
+    let mut i = from;
+    let mut left = count;
+    while 0 < left {
+        sum = sum + numbers::size(cells[i]);
+        i = i + 1;
+        left = left - 1;
+    }
+    sum
+}
+
+// The length of the image of tables that meet no refusal.
+pub fn image_length(cat: Catalogue, cells: &[u64]) -> usize
+    requires { ⌜ writeFault cat (now cells) ≡ 0 ⌝ }
+    ensures { λ r. ⌜ r ≡ length (imageOf cat (now (cells .entry))) ⌝ }
+{
+    let n = cat.n;
+    let mut sum: usize = numbers::size(1) + numbers::size(cat.m as u64) + numbers::size(n as u64);
+    let mut used: usize = 0;
+    let mut t: usize = 0;
+    while t < n {
+        let scheme = cat.schemes[t];
+        let rows = cat.rows[t];
+        let count = (rows as usize) * tables::width(scheme);
+        sum = sum
+            + numbers::size(scheme)
+            + numbers::size(rows as u64)
+            + run_size(cells, used, count);
+        used = used + count;
+        t = t + 1;
+    }
+    sum
+}
