@@ -45,7 +45,7 @@ static int load(const char *name)
         fprintf(stderr, "%s is too long for an image\n", name);
         return ERROR;
     }
-    uint64_t answer = harbour_load(image, length, cells, MOST_CELLS, catalogue, 18);
+    uint64_t answer = harbour_load(image, length, cells, MOST_CELLS, catalogue, 18, NULL, 0);
     if (answer == 0)
         return RIGHT;
     printf("refused %" PRIu64 " %" PRIu64 "\n", answer % 32, answer / 32);

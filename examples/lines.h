@@ -46,7 +46,7 @@ static bool loads(int *status)
         puts("input too long");
         return false;
     }
-    uint64_t loaded = harbour_load(image, length, cells, MOST_CELLS, catalogue, 18);
+    uint64_t loaded = harbour_load(image, length, cells, MOST_CELLS, catalogue, 18, NULL, 0);
     if (loaded != 0)
         printf("refused %" PRIu64 " %" PRIu64 "\n", loaded % 32, loaded / 32);
     return loaded == 0;

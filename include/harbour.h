@@ -38,7 +38,7 @@ extern "C" {
  *
  * The refusals:
  *   1  the image ends inside a number, or where one is due
- *   2  a number is not in its shortest form, or its ninth byte has the top bit set
+ *   2  a number is not in its shortest form: its last group, after the first byte, is zero
  *   3  the version is not 1
  *   4  the number of attributes is not 1 to 63, or the number of tables not 1 to 8
  *   5  a scheme is 0, or has an attribute that is not below their number
@@ -46,6 +46,7 @@ extern "C" {
  *   7  a row does not rise above the one before
  *   8  the cells so far, this table included, pass 8,192
  *   9  bytes follow the last table
+ *   17 a number does not end: its ninth byte has the top bit set
  */
 uint64_t harbour_check(const uint8_t *image, size_t length);
 
@@ -79,10 +80,15 @@ uint64_t harbour_check(const uint8_t *image, size_t length);
  * answer is as of harbour_check, with room for 8,192 cells or as many as are lent,
  * whichever is less. A refused image leaves the cells as they were and gives a
  * catalogue of zeros.
+ *
+ * The first word of `looked` tells how many bytes of the number at fault were
+ * looked at, with refusal 1 (0 to 8), 2 (2 to 9) and 17 (9); with another refusal
+ * and with a good image it is 0. Who does not ask lends no word: NULL and 0.
  */
 uint64_t harbour_load(const uint8_t *image, size_t image_length,
                       uint64_t *cells, size_t cells_length,
-                      uint64_t *catalogue, size_t catalogue_length);
+                      uint64_t *catalogue, size_t catalogue_length,
+                      uint64_t *looked, size_t looked_length);
 
 /*
  * Writes the image of tables. The answer is its length * 32, or the refusal, and

@@ -2,11 +2,12 @@
 use crate::words::CATALOGUE;
 
 /// An image edge: the image and the answer to it, with 8,192 cells lent.
-/// The answer is the refusal and the place; (0, 0) is good.
+/// The answer is the refusal and the place; (0, 0) is good. `looked` is the count that a load gives with it.
 pub struct ImageEdge {
     pub name: &'static str,
     pub image: Vec<u8>,
     pub answer: (u64, u64),
+    pub looked: u64,
 }
 
 /// A writer's edge: the tables, the lent output's length and the answer.
@@ -41,36 +42,34 @@ pub fn full_width(rows: u8) -> Vec<u8> {
 /// The number edges as images: the number is the only cell of a good image, at place 5.
 /// The code is that of the cell when the image is good.
 pub fn numbers() -> Vec<(ImageEdge, u64)> {
-    let edge = |name, form: &str, answer, code| {
-        let image = hex(&format!("01 01 01 01 01 {form}"));
-        (ImageEdge { name, image, answer }, code)
-    };
+    let good = |name, form: &str, code| (ImageEdge { name, image: hex(&format!("01 01 01 01 01 {form}")), answer: (0, 0), looked: 0 }, code);
+    let bad = |name, form: &str, refusal, looked| (ImageEdge { name, image: hex(&format!("01 01 01 01 01 {form}")), answer: (refusal, 5), looked }, 0);
     vec![
-        edge("P 0 is 00", "00", (0, 0), 0),
-        edge("1 is 01", "01", (0, 0), 1),
-        edge("P 127 is 7F", "7F", (0, 0), 127),
-        edge("P 128 is 80 01", "80 01", (0, 0), 128),
-        edge("16,383 is FF 7F", "FF 7F", (0, 0), 16_383),
-        edge("16,384 is 80 80 01", "80 80 01", (0, 0), 16_384),
-        edge("4,294,967,307 is 8B 80 80 80 10", "8B 80 80 80 10", (0, 0), 4_294_967_307),
-        edge("P 2^63 - 1 is FF eight times, then 7F", "FF FF FF FF FF FF FF FF 7F", (0, 0), (1 << 63) - 1),
-        edge("2^56 is 80 eight times, then 01", "80 80 80 80 80 80 80 80 01", (0, 0), 1 << 56),
-        edge("P 80 00 gives 2", "80 00", (2, 5), 0),
-        edge("FF 00 gives 2", "FF 00", (2, 5), 0),
-        edge("nine bytes with a last group of zero give 2", "80 80 80 80 80 80 80 80 00", (2, 5), 0),
-        edge("nine bytes 80 give 2", "80 80 80 80 80 80 80 80 80", (2, 5), 0),
-        edge("nine bytes FF give 2", "FF FF FF FF FF FF FF FF FF", (2, 5), 0),
-        edge("ten bytes give 2", "80 80 80 80 80 80 80 80 80 01", (2, 5), 0),
-        edge("eight bytes 80 give 1", "80 80 80 80 80 80 80 80", (1, 5), 0),
-        edge("one byte 80 gives 1", "80", (1, 5), 0),
-        edge("no byte gives 1", "", (1, 5), 0),
+        good("P 0 is 00", "00", 0),
+        good("1 is 01", "01", 1),
+        good("P 127 is 7F", "7F", 127),
+        good("P 128 is 80 01", "80 01", 128),
+        good("16,383 is FF 7F", "FF 7F", 16_383),
+        good("16,384 is 80 80 01", "80 80 01", 16_384),
+        good("4,294,967,307 is 8B 80 80 80 10", "8B 80 80 80 10", 4_294_967_307),
+        good("P 2^63 - 1 is FF eight times, then 7F", "FF FF FF FF FF FF FF FF 7F", (1 << 63) - 1),
+        good("2^56 is 80 eight times, then 01", "80 80 80 80 80 80 80 80 01", 1 << 56),
+        bad("P 80 00 gives 2", "80 00", 2, 2),
+        bad("FF 00 gives 2", "FF 00", 2, 2),
+        bad("nine bytes with a last group of zero give 2", "80 80 80 80 80 80 80 80 00", 2, 9),
+        bad("nine bytes 80 give 17", "80 80 80 80 80 80 80 80 80", 17, 9),
+        bad("nine bytes FF give 17", "FF FF FF FF FF FF FF FF FF", 17, 9),
+        bad("ten bytes give 17", "80 80 80 80 80 80 80 80 80 01", 17, 9),
+        bad("eight bytes 80 give 1", "80 80 80 80 80 80 80 80", 1, 8),
+        bad("one byte 80 gives 1", "80", 1, 1),
+        bad("no byte gives 1", "", 1, 0),
     ]
 }
 
 /// The image edges, those of the rules first and then the other sides of them.
-/// Places count bytes from 0.
+/// Places count bytes from 0. No number here is cut short, and each that is padded has two bytes: the counts are 0 and 2.
 pub fn images() -> Vec<ImageEdge> {
-    let edge = |name, form: &str, refusal, place| ImageEdge { name, image: hex(form), answer: (refusal, place) };
+    let edge = |name, form: &str, refusal, place| ImageEdge { name, image: hex(form), answer: (refusal, place), looked: if refusal == 2 { 2 } else { 0 } };
     let mut edges = vec![
         edge("empty", "", 1, 0),
         edge("version 2", "02", 3, 0),
@@ -110,15 +109,15 @@ pub fn images() -> Vec<ImageEdge> {
         edge("the second table's scheme", "01 01 02 01 01 07 02", 5, 6),
         edge("the second table is missing", "01 01 02 01 01 07", 1, 6),
     ];
-    edges.push(ImageEdge { name: "63 attributes, 130 rows", image: full_width(130), answer: (0, 0) });
-    edges.push(ImageEdge { name: "63 attributes, 131 rows", image: full_width(131), answer: (8, 12) });
+    edges.push(ImageEdge { name: "63 attributes, 130 rows", image: full_width(130), answer: (0, 0), looked: 0 });
+    edges.push(ImageEdge { name: "63 attributes, 131 rows", image: full_width(131), answer: (8, 12), looked: 0 });
     let mut more = hex("01 3F 02 FF FF FF FF FF FF FF FF 7F");
     more.extend(&full_width(130)[12..]);
     let place = more.len() as u64 + 1;
     for (name, rows, answer) in [("8,192 cells", "01 02 01 02", (0, 0)), ("8,193 cells", "01 03 01 02 03", (8, place))] {
         let mut image = more.clone();
         image.extend(hex(rows));
-        edges.push(ImageEdge { name, image, answer });
+        edges.push(ImageEdge { name, image, answer, looked: 0 });
     }
     edges
 }

@@ -102,10 +102,10 @@ struct Reader<'a> {
 
 impl Reader<'_> {
     /// Reads the next number and moves behind it.
-    /// Its own faults (1, 2) carry the place of its first byte.
+    /// Its own faults (1, 2, 17) carry the place of its first byte and the bytes looked at.
     fn number(&mut self) -> Result<u64, Fault> {
         let (value, length) = numbers::decode(&self.image[self.place..])
-            .map_err(|refusal| Fault { refusal, place: self.place })?;
+            .map_err(|(refusal, looked)| Fault { refusal, place: self.place, looked })?;
         self.place += length;
         Ok(value)
     }
@@ -118,7 +118,7 @@ impl Reader<'_> {
         if good(value) {
             Ok(value)
         } else {
-            Err(Fault { refusal, place })
+            Err(Fault::at(place, refusal))
         }
     }
 }
@@ -139,7 +139,7 @@ pub fn read(image: &[u8], lent: usize) -> Result<(Catalogue, Vec<u64>), Fault> {
         let place = reader.place;
         catalogue.rows[table] = reader.meant(Refusal::Rows, |rows| rows <= ROWS)? as u16;
         if cells.len() + catalogue.size(table) > lent.min(CELLS) {
-            return Err(Fault { refusal: Refusal::Cells, place });
+            return Err(Fault::at(place, Refusal::Cells));
         }
         let mut previous: Option<Vec<u64>> = None;
         for _ in 0..catalogue.rows[table] {
@@ -149,14 +149,14 @@ pub fn read(image: &[u8], lent: usize) -> Result<(Catalogue, Vec<u64>), Fault> {
                 row.push(reader.number()?);
             }
             if previous.is_some_and(|previous| previous >= row) {
-                return Err(Fault { refusal: Refusal::Order, place });
+                return Err(Fault::at(place, Refusal::Order));
             }
             cells.extend_from_slice(&row);
             previous = Some(row);
         }
     }
     if reader.place < image.len() {
-        return Err(Fault { refusal: Refusal::Surplus, place: reader.place });
+        return Err(Fault::at(reader.place, Refusal::Surplus));
     }
     Ok((catalogue, cells))
 }

@@ -9,7 +9,11 @@ use crate::words::Call;
 // A slice passes as a pointer and then its length in elements.
 extern "C" {
     fn harbour_check(image: *const u8, length: usize) -> u64;
-    fn harbour_load(image: *const u8, image_length: usize, cells: *mut u64, cells_length: usize, catalogue: *mut u64, catalogue_length: usize) -> u64;
+    #[allow(clippy::too_many_arguments)]
+    fn harbour_load(
+        image: *const u8, image_length: usize, cells: *mut u64, cells_length: usize, catalogue: *mut u64, catalogue_length: usize,
+        looked: *mut u64, looked_length: usize,
+    ) -> u64;
     fn harbour_write(catalogue: *const u64, catalogue_length: usize, cells: *const u64, cells_length: usize, out: *mut u8, out_length: usize) -> u64;
 }
 
@@ -63,8 +67,13 @@ pub fn check(image: &[u8]) -> u64 {
 
 /// The library's load.
 /// See `words::load`.
-pub fn load(image: &[u8], cells: &mut [u64], catalogue: &mut [u64]) -> u64 {
-    unsafe { harbour_load(image.as_ptr(), image.len(), cells.as_mut_ptr(), cells.len(), catalogue.as_mut_ptr(), catalogue.len()) }
+pub fn load(image: &[u8], cells: &mut [u64], catalogue: &mut [u64], looked: &mut [u64]) -> u64 {
+    unsafe {
+        harbour_load(
+            image.as_ptr(), image.len(), cells.as_mut_ptr(), cells.len(), catalogue.as_mut_ptr(), catalogue.len(),
+            looked.as_mut_ptr(), looked.len(),
+        )
+    }
 }
 
 /// The library's write.
@@ -184,8 +193,12 @@ mod mock {
     /// The mock of load.
     /// See `words::load`.
     #[no_mangle]
-    unsafe extern "C" fn harbour_load(image: *const u8, image_length: usize, cells: *mut u64, cells_length: usize, catalogue: *mut u64, catalogue_length: usize) -> u64 {
-        words::load(lent(image, image_length), lent_mut(cells, cells_length), lent_mut(catalogue, catalogue_length))
+    #[allow(clippy::too_many_arguments)]
+    unsafe extern "C" fn harbour_load(
+        image: *const u8, image_length: usize, cells: *mut u64, cells_length: usize, catalogue: *mut u64, catalogue_length: usize,
+        looked: *mut u64, looked_length: usize,
+    ) -> u64 {
+        words::load(lent(image, image_length), lent_mut(cells, cells_length), lent_mut(catalogue, catalogue_length), lent_mut(looked, looked_length))
     }
 
     /// The mock of write.

@@ -18,6 +18,7 @@ pub enum Refusal {
     Full = 12,
     Record = 13,
     Damaged = 14,
+    Endless = 17,
     NoRow = 19,
 }
 
@@ -29,10 +30,19 @@ impl Refusal {
     }
 }
 
-/// A refusal of the loader, with its place.
-/// The place counts bytes from the image's first, which is 0.
+/// A refusal of the loader, with its place and the bytes looked at.
+/// The place counts bytes from the image's first, which is 0; the count is 0 but for a number's own faults.
 #[derive(Clone, Copy, Debug, PartialEq, Eq)]
 pub struct Fault {
     pub refusal: Refusal,
     pub place: usize,
+    pub looked: usize,
+}
+
+impl Fault {
+    /// A refusal that is no number's own.
+    /// Its count is 0.
+    pub fn at(place: usize, refusal: Refusal) -> Fault {
+        Fault { refusal, place, looked: 0 }
+    }
 }

@@ -19,8 +19,14 @@ impl Tally {
     /// Counts one answer of a call.
     /// Both are names in the printed table.
     pub fn meet(&mut self, call: &str, answer: impl ToString) {
-        *self.met.entry((call.to_string(), answer.to_string())).or_insert(0) += 1;
+        self.note(call, answer);
         self.calls += 1;
+    }
+
+    /// Counts something else that a call gave.
+    /// It is in the printed table, and no call of its own.
+    pub fn note(&mut self, name: &str, answer: impl ToString) {
+        *self.met.entry((name.to_string(), answer.to_string())).or_insert(0) += 1;
     }
 
     /// Counts one comparison, and prints what differs.

@@ -47,15 +47,18 @@ pub fn check(image: &[u8]) -> u64 {
 }
 
 /// Load: place x 32 + refusal, and 0 for good.
-/// A refusal gives a catalogue of zeros.
-pub fn load(image: &[u8], cells: &mut [u64], catalogue: &mut [u64]) -> u64 {
+/// A refusal gives a catalogue of zeros; the bytes looked at go into the first word of `looked`, where there is one.
+pub fn load(image: &[u8], cells: &mut [u64], catalogue: &mut [u64], looked: &mut [u64]) -> u64 {
     if catalogue.len() < CATALOGUE {
         return SHORT_SLICE;
     }
-    let (answer, loaded) = match image::load(image, cells) {
-        Ok(loaded) => (0, loaded),
-        Err(fault) => (fault.place as u64 * 32 + fault.refusal.number(), Catalogue::default()),
+    let (answer, loaded, count) = match image::load(image, cells) {
+        Ok(loaded) => (0, loaded, 0),
+        Err(fault) => (fault.place as u64 * 32 + fault.refusal.number(), Catalogue::default(), fault.looked as u64),
     };
+    if let Some(word) = looked.first_mut() {
+        *word = count;
+    }
     catalogue[..CATALOGUE].copy_from_slice(&words_of(&loaded));
     answer
 }

@@ -29,7 +29,7 @@ static bool refuse(struct reading *r, uint64_t refusal, size_t place)
     return false;
 }
 
-/* Reads a number of at most nine bytes: 1 where it ends too early, 2 where it is not in its shortest form. */
+/* Reads a number of at most nine bytes: 1 where it ends too early, 2 where its last group is a surplus zero, 17 where it goes on. */
 static bool number(struct reading *r, uint64_t *value)
 {
     size_t start = r->at;
@@ -42,7 +42,7 @@ static bool number(struct reading *r, uint64_t *value)
         if (byte < 128)
             return byte == 0 && group > 0 ? refuse(r, 2, start) : true;
     }
-    return refuse(r, 2, start);
+    return refuse(r, 17, start);
 }
 
 /* Reads a number that has to lie in a range. */

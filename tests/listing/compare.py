@@ -70,7 +70,7 @@ CASES = {
     "no_row": (bare("01 01 01 01 00"), "tables 1 1 0 0\nend 0 0 0 0\n"),
     "null_row": (bare("01 01 01 01 01 00"), None),
     # a number's own faults: nine bytes 80, eight of them, and a form that is not the shortest
-    "ninth_byte": (bytes([0x80] * 9), "refused 2 0\n"),
+    "ninth_byte": (bytes([0x80] * 9), "refused 17 0\n"),
     "eight_bytes": (bytes([0x80] * 8), "refused 1 0\n"),
     "not_shortest": (bare("80 00"), "refused 2 0\n"),
     # a table of 63 attributes may have 130 rows (see `most`); 131 give 8, at the row count behind nine bytes of scheme

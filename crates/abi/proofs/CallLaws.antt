@@ -3,27 +3,30 @@ use Prim.Native.Nat.{ℕ}
 use mathlib.Core.Path.{_≡_, ap, subst, _∙_}
 use mathlib.Core.Bool.{true, false}
 use mathlib.Core.List.{List}
+use lib.ListN.{set}
 use Rattle.laws.specs.Lists.{put}
 use Rattle.tables.specs.declared.Catalogue.{Catalogue}
 use Rattle.loader.specs.declared.Loaded.{Loaded}
 use Rattle.writer.specs.declared.Written.{Written}
 use Rattle.loader.specs.Load.{firstTable, tablesCodes, cellsAfter, Loads}
 use Rattle.writer.specs.Write.{Writes}
-use Rattle.verdicts.specs.Number.{doorNumber}
+use Rattle.verdicts.specs.Number.{doorNumber, lookedIn}
 use Rattle.abi.specs.Words.{wordsOf, catalogueIn}
 use Rattle.abi.specs.Calls.{tooFewWords, short, LoadCall, writtenNumber, WriteCall}
 
-module _ (image cells words : List ℕ) where
-  pub load-short : short words ≡ true → LoadCall image cells words tooFewWords cells words
-  load-short e = record { answer = rw e; cells-after = rw e; words-after = rw e }
+module _ (image cells words looked : List ℕ) where
+  pub load-short : short words ≡ true → LoadCall image cells words looked tooFewWords cells words looked
+  load-short e = record { answer = rw e; cells-after = rw e; words-after = rw e; looked-after = rw e }
 
-  pub load-done : (r : Loaded) (k : ℕ) (cells′ words′ : List ℕ) → short words ≡ false → Loads image cells r cells′ → k ≡ doorNumber (r .verdict) → words′ ≡ put (wordsOf (r .catalogue)) words
-      → LoadCall image cells words k cells′ words′
-  load-done r k cells′ words′ e l d w =
+  pub load-done : (r : Loaded) (k c : ℕ) (cells′ words′ looked′ : List ℕ) → short words ≡ false → Loads image cells r cells′ → k ≡ doorNumber (r .verdict)
+      → words′ ≡ put (wordsOf (r .catalogue)) words → c ≡ lookedIn (r .verdict) → looked′ ≡ set looked 0 c
+      → LoadCall image cells words looked k cells′ words′ looked′
+  load-done r k c cells′ words′ looked′ e l d w h q =
       record {
         answer = rw e (d ∙ ap (λ (x : Loaded). doorNumber (x .verdict)) (l .answer));
         cells-after = rw e (l .cells ∙ ap (λ (x : Loaded). cellsAfter (x .verdict) (tablesCodes (x .catalogue .n) image firstTable) cells) (l .answer));
         words-after = rw e (w ∙ ap (λ (x : Loaded). put (wordsOf (x .catalogue)) words) (l .answer));
+        looked-after = rw e (q ∙ ap (λ (x : ℕ). set looked 0 x) (h ∙ ap (λ (x : Loaded). lookedIn (x .verdict)) (l .answer)));
       }
 
 module _ (words cells out : List ℕ) where

@@ -4,7 +4,7 @@ use Prim.Native.Nat.{ℕ, _*_}
 use mathlib.Core.Path.{_≡_}
 use mathlib.Core.Bool.{Bool, cond}
 use mathlib.Core.List.{List}
-use lib.ListN.{length}
+use lib.ListN.{length, set}
 use lib.Dec.{ltb}
 use Rattle.laws.specs.Lists.{put}
 use Rattle.writer.specs.declared.Written.{Written}
@@ -12,7 +12,7 @@ use Rattle.writer.specs.declared.Written.the-variants.{Length, Refused}
 use Rattle.loader.specs.Load.{firstTable, scanOf, tablesCodes, cellsAfter}
 use Rattle.writer.specs.Write.{imageOf, written, bytesAfter}
 use Rattle.padding.specs.Covering.{covering}
-use Rattle.verdicts.specs.Number.{doorNumber}
+use Rattle.verdicts.specs.Number.{doorNumber, lookedIn}
 use Rattle.abi.specs.Words.{catalogueWords, wordsOf, catalogueIn}
 
 -- No refusal of document 01 has this number.
@@ -23,11 +23,13 @@ tooFewWords = 31
 abbrev pub short : List ℕ → Bool
 short words = ltb (length words) catalogueWords
 
--- A load: the door's number, the cells afterwards, and the words of the catalogue.
-pub record LoadCall (image cells words : List ℕ) (r : ℕ) (cells′ words′ : List ℕ) : Type 0 where
+-- A load: the door's number, the cells afterwards, the words of the catalogue, and in the first word of `looked`, where one is lent, how many bytes of the
+-- number at fault were looked at (request #107).
+pub record LoadCall (image cells words looked : List ℕ) (r : ℕ) (cells′ words′ looked′ : List ℕ) : Type 0 where
   pub answer : r ≡ cond (short words) tooFewWords (doorNumber (scanOf image (length cells) .verdict))
   pub cells-after : cells′ ≡ cond (short words) cells (cellsAfter (scanOf image (length cells) .verdict) (tablesCodes (scanOf image (length cells) .catalogue .n) image firstTable) cells)
   pub words-after : words′ ≡ cond (short words) words (put (wordsOf (scanOf image (length cells) .catalogue)) words)
+  pub looked-after : looked′ ≡ cond (short words) looked (set looked 0 (lookedIn (scanOf image (length cells) .verdict)))
 
 -- The length x 32, or the refusal.
 abbrev pub writtenNumber : Written → ℕ

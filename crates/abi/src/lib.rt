@@ -1,7 +1,7 @@
 // The library's calls for C and Rust: numbers and slices alone, a catalogue as 18 words.
 ghost use mathlib.Core.Path.{_≡_};
 ghost use Prim.Native.Nat.{_+_, _≤_, _<_};
-ghost use lib.ListN.{length, getD};
+ghost use lib.ListN.{length, getD, set};
 ghost use lib.Dec.{ltb};
 ghost use Rattle.laws.specs.Lists.{put};
 ghost use Rattle.abi.specs.Words.{catalogueWords, wordsOf, countIn, catalogueIn};
@@ -86,11 +86,26 @@ fn too_few(words: usize) -> bool
     words < 18
 }
 
-// Loads an image into the lent cells, and its catalogue into the lent words.
+// Puts a count into the first of the lent words, where there is one.
+// Who does not ask for the count lends no word.
+fn put_count(count: u64, words: &mut [u64])
+    ensures { λ _. ⌜ now (words .exit) ≡ set (now (words .entry)) 0 count ⌝ }
+{
+    if 0 < words.len() {
+        words[0] = count;
+    }
+}
+
+// Loads an image into the lent cells, its catalogue into the lent words, and the count of the bytes looked at into `looked`.
 // The answer is the door's number (0 for good, else place x 32 + refusal), or 31 where the words are too few.
 #[no_mangle]
-pub extern "C" fn harbour_load(image: &[u8], cells: &mut [u64], catalogue: &mut [u64]) -> u64
-    ensures { λ r. ⌜ LoadCall (now (image .entry)) (now (cells .entry)) (now (catalogue .entry)) r (now (cells .exit)) (now (catalogue .exit)) ⌝ }
+pub extern "C" fn harbour_load(
+    image: &[u8],
+    cells: &mut [u64],
+    catalogue: &mut [u64],
+    looked: &mut [u64],
+) -> u64
+    ensures { λ r. ⌜ LoadCall (now (image .entry)) (now (cells .entry)) (now (catalogue .entry)) (now (looked .entry)) r (now (cells .exit)) (now (catalogue .exit)) (now (looked .exit)) ⌝ }
 {
     if too_few(catalogue.len()) {
         return 31;
@@ -99,6 +114,8 @@ pub extern "C" fn harbour_load(image: &[u8], cells: &mut [u64], catalogue: &mut 
     let verdict = r.verdict;
     let cat = r.catalogue;
     put_catalogue(cat, catalogue);
+    let count = verdicts::looked_of(verdict);
+    put_count(count, looked);
     verdicts::number_of(verdict)
 }
 

@@ -220,8 +220,8 @@ determined =
       covers = λ first second r r′ e e′. e ∙ sym e′;
       «check_list» = λ cat cells words r r′ e e′. e ∙ sym e′;
       check = λ s r r′ e e′. e ∙ sym e′;
-      «harbour_load» = λ image cells words r r′ cs ws cs′ ws′ c d.
-          (c .answer ∙ sym (d .answer), c .cells-after ∙ sym (d .cells-after), c .words-after ∙ sym (d .words-after));
+      «harbour_load» = λ image cells words looked r r′ cs ws ls cs′ ws′ ls′ c d.
+          (c .answer ∙ sym (d .answer), c .cells-after ∙ sym (d .cells-after), c .words-after ∙ sym (d .words-after), c .looked-after ∙ sym (d .looked-after));
       «harbour_write» = λ words cells out r r′ o o′ c d. (c .answer ∙ sym (d .answer), c .bytes-after ∙ sym (d .bytes-after));
       «harbour_open» = λ catalogue cells keys left right words r r′ ks ls rs ws ks′ ls′ rs′ ws′ c d. opening-one c d;
       «harbour_next» = λ catalogue cells keys left right words b row result r r′ ks ls rs ws w res ks′ ls′ rs′ ws′ w′ res′ c d. calling-one c d;

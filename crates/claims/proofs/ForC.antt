@@ -6,7 +6,7 @@ use mathlib.Core.Path.{_≡_, refl, sym, ap, subst, _∙_}
 use mathlib.Core.Logic.{_⊎_, inl, inr, _↔_}
 use mathlib.Core.Bool.{Bool, true, false, cond}
 use mathlib.Core.List.{List, [], _∷_}
-use lib.ListN.{length, getD}
+use lib.ListN.{length, getD, set}
 use lib.Dec.{ltb}
 use native.Mathlib.Decide.{decLt}
 use borrow.Author.Tests.{le-ltb}
@@ -23,7 +23,7 @@ use Rattle.writer.specs.declared.Written.the-variants as Written
 use Rattle.loader.specs.Load.{firstTable, noCatalogue, farthest, NearVerdict, scanOf, tablesCodes, cellsAfter, Loads}
 use Rattle.writer.specs.Write.{imageOf, written, bytesAfter}
 use Rattle.loader.proofs.PlaceLaws.{scan-near}
-use Rattle.verdicts.specs.Number.{doorNumber}
+use Rattle.verdicts.specs.Number.{doorNumber, lookedIn}
 use Rattle.machine.specs.Machine.{State, stateFor, Says, aSet, finished, working, refused, Called, answer, callFault, call, Opened, zeros, openingFor}
 use Rattle.machine.proofs.RefusalLaws.{call-refused}
 use Rattle.stream.specs.Promises.{stateOf, holdingStateOf}
@@ -85,7 +85,7 @@ module _ (image : List ℕ) (room : ℕ) where
         λ e. absurd (let z : _≡_ {A = ℕ} 0 1 = cc in omega arith),
       )
 
-module _ (image cells words : List ℕ) (r : ℕ) (cells′ words′ : List ℕ) (c : LoadCall image cells words r cells′ words′) where
+module _ (image cells words looked : List ℕ) (r : ℕ) (cells′ words′ looked′ : List ℕ) (c : LoadCall image cells words looked r cells′ words′ looked′) where
   load-few : (r ≡ tooFewWords) ↔ (length words < catalogueWords)
   load-few = only-few (short words) (doorNumber (scanOf image (length cells) .verdict)) r (lt-iff (length words) catalogueWords)
       (door-apart image (length cells)) (c .answer)
@@ -98,7 +98,7 @@ module _ (image cells words : List ℕ) (r : ℕ) (cells′ words′ : List ℕ)
     load-answer = behind (short words) tooFewWords (doorNumber (scanOf image (length cells) .verdict)) r long (c .answer)
 
     load-refused : (f : Fault) → scanOf image (length cells) .verdict ≡ Refused f
-        → (r % 32 ≡ f .refusal) × (r / 32 ≡ f .place) × (cells′ ≡ cells) × (words′ ≡ put (wordsOf noCatalogue) words)
+        → (r % 32 ≡ f .refusal) × (r / 32 ≡ f .place) × (cells′ ≡ cells) × (words′ ≡ put (wordsOf noCatalogue) words) × (looked′ ≡ set looked 0 (f .looked))
     load-refused f e =
         let n : NearVerdict farthest (Refused f) = subst (NearVerdict farthest) e (near image (length cells)) in
         let a : r ≡ f .place * 32 + f .refusal = load-answer ∙ ap doorNumber e in (
@@ -109,6 +109,8 @@ module _ (image cells words : List ℕ) (r : ℕ) (cells′ words′ : List ℕ)
               ∙ ap (λ (v : Verdict). cellsAfter v (tablesCodes (scanOf image (length cells) .catalogue .n) image firstTable) cells) e,
           behind (short words) words (put (wordsOf (scanOf image (length cells) .catalogue)) words) words′ long (c .words-after)
               ∙ ap (λ (t : Catalogue). put (wordsOf t) words) (scan-zeros image (length cells) f e),
+          behind (short words) looked (set looked 0 (lookedIn (scanOf image (length cells) .verdict))) looked′ long (c .looked-after)
+              ∙ ap (λ (v : Verdict). set looked 0 (lookedIn v)) e,
         )
 
 module _ (words cells out : List ℕ) (r : ℕ) (out′ : List ℕ) (c : WriteCall words cells out r out′) where
@@ -280,8 +282,8 @@ pub abi-exact : AbiExact
 abi-exact =
     record {
       load-few = load-few;
-      load-good = λ image cells words r cells′ words′ c h. subst (λ (x : ℕ). (x ≡ 0) ↔ (scanOf image (length cells) .verdict ≡ Good))
-          (sym (load-answer image cells words r cells′ words′ c h)) (door-good image (length cells));
+      load-good = λ image cells words looked r cells′ words′ looked′ c h. subst (λ (x : ℕ). (x ≡ 0) ↔ (scanOf image (length cells) .verdict ≡ Good))
+          (sym (load-answer image cells words looked r cells′ words′ looked′ c h)) (door-good image (length cells));
       load-refused = load-refused;
       write-few = write-few;
       write-length = write-length;

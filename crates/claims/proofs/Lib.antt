@@ -28,3 +28,4 @@ pub mod InARow
 pub mod Imaged
 pub mod ForC
 pub mod ListChecked
+pub mod ListSample

@@ -41,7 +41,7 @@ module _ (s : List ℕ) (room : ℕ) where
     where
       by : (o : Reading) → decode s i ≡ o → Ended
       by (Number x j) e = go x j e
-      by (NumberFault f) e = met r (number n e)
+      by (NumberFault f c) e = met r (number n e)
 
   module _ (m k u x : ℕ) where
     through-cells : (c : ℕ) (b : Before) (p w : ℕ) → ((j : ℕ) → Reaches s room (cells m k u x c b p 0) j → Ended)
@@ -154,11 +154,12 @@ module _ (s : List ℕ) (room : ℕ) where
 
 -- No refusal is 0, which the door keeps for good.
 pub some-refusal : (s : List ℕ) (room : ℕ) {d : Due} {i : ℕ} {f : Fault} → Meets s room d i f → 0 < f .refusal
-some-refusal s room (number {i = i} {f = f} n e) = by (number-exact s i .no-other f e)
+some-refusal s room (number {i = i} {f = f} {c = c} n e) = by (number-exact s i .no-other f c e)
   where
-    by : (f ≡ 1) ⊎ (f ≡ 2) → 0 < f
+    by : (f ≡ 1) ⊎ ((f ≡ 2) ⊎ (f ≡ 17)) → 0 < f
     by (inl h) = omega arith
-    by (inr h) = omega arith
+    by (inr (inl h)) = omega arith
+    by (inr (inr h)) = omega arith
 some-refusal s room (other-version e h) = omega arith
 some-refusal s room (m-out e h) = omega arith
 some-refusal s room (n-out e h) = omega arith
@@ -173,13 +174,14 @@ module _ (s : List ℕ) where
   unfolding checkOf
   says-door v e = rw e
 
-  door-refused : (k p : ℕ) → k < 32 → 0 < k → checkOf s ≡ p * 32 + k → (v : Verdict) → scanOf s mostCells .verdict ≡ v → v ≡ Refused (refusalAt k p)
-  door-refused k p l z c Good e = absurd (omega (arith, says-door Good e))
-  door-refused k p l z c (Refused f) e =
+  door-refused : (k p : ℕ) → k < 32 → 0 < k → checkOf s ≡ p * 32 + k → (v : Verdict) → scanOf s mostCells .verdict ≡ v
+      → (c : ℕ) × (v ≡ Refused (refusalAt k p c))
+  door-refused k p l z q Good e = absurd (omega (arith, says-door Good e))
+  door-refused k p l z q (Refused f) e =
       let t = door-tells s f e in
       let b : f .refusal ≡ k = omega arith in
       let d : f .place ≡ p = omega arith in
-      ap Refused (ap₂ refusalAt b d)
+      (f .looked, ap Refused (ap₂ (λ (x y : ℕ). refusalAt x y (f .looked)) b d))
 
   door-good : checkOf s ≡ 0 → (v : Verdict) → scanOf s mostCells .verdict ≡ v → v ≡ Good
   door-good c Good e = refl
@@ -191,8 +193,10 @@ module _ (s : List ℕ) where
   check-exact =
       record {
         refuses = λ k p l z. (
-          λ c. load-exact s mostCells .refuses (refusalAt k p) .0 (door-refused k p l z c (scanOf s mostCells .verdict) refl),
-          λ f. says-door (Refused (refusalAt k p)) (fault-refused s mostCells (refusalAt k p) f),
+          λ q.
+              let (c, e) = door-refused k p l z q (scanOf s mostCells .verdict) refl in
+              (c, load-exact s mostCells .refuses (refusalAt k p c) .0 e),
+          λ (c, f). says-door (Refused (refusalAt k p c)) (fault-refused s mostCells (refusalAt k p c) f),
         );
         accepts = (λ c. load-exact s mostCells .accepts .0 (door-good c (scanOf s mostCells .verdict) refl), λ w. says-door Good (whole-good s mostCells w));
       }

@@ -50,7 +50,7 @@ placeOf (rowAt q) = q
 module _ (s : List ℕ) (room : ℕ) where
   -- k tables from place i on
   unfoldable tablesSay : ℕ → ℕ → ℕ → ℕ → Verdict
-  tablesSay zero m u i = cond (ltb i (length s)) (Refused (refusalAt 9 i)) Good
+  tablesSay zero m u i = cond (ltb i (length s)) (Refused (refusalAt 9 i 0)) Good
   tablesSay (suc k) m u i = onEntry (tableAt s room m u i) (λ x c v e. tablesSay k m v e) Refused
 
   -- a table that came to this, with k tables behind it
@@ -67,7 +67,7 @@ module _ (s : List ℕ) (room : ℕ) where
 
   -- the cells of the row at place p that came to this, with c rows behind it
   abbrev rowWalk : ℕ → ℕ → Before → ℕ → Walk → Walk
-  rowWalk w c b p r = onWalk r (λ n. cond (risesAt w b p) (rowsFrom c w s false p n) (WalkFault (refusalAt 7 p)))
+  rowWalk w c b p r = onWalk r (λ n. cond (risesAt w b p) (rowsFrom c w s false p n) (WalkFault (refusalAt 7 p 0)))
 
   abbrev sizeSays : ℕ → ℕ → Verdict
   sizeSays m i = fieldSays (fieldAt s i 1 mostTables 4) (λ n j. tablesSay n m 0 j)
@@ -90,8 +90,8 @@ module _ (s : List ℕ) (room : ℕ) where
   unfolding tablesFrom tablesSay
   tables-say zero m n t u xs cs i = by (ltb i (length s))
     where
-      by : (b : Bool) → cond b (refused (refusalAt 9 i)) (record { verdict = Good; catalogue = record { m = m; n = n; schemes = xs; rows = cs } }) .verdict
-          ≡ cond b (Refused (refusalAt 9 i)) Good
+      by : (b : Bool) → cond b (refused (refusalAt 9 i 0)) (record { verdict = Good; catalogue = record { m = m; n = n; schemes = xs; rows = cs } }) .verdict
+          ≡ cond b (Refused (refusalAt 9 i 0)) Good
       by true = refl
       by false = refl
   tables-say (suc k) m n t u xs cs i = by (tableAt s room m u i) (λ x c v e. tables-say k m n (t + 1) v (set xs t x) (set cs t c) e)
@@ -137,11 +137,11 @@ module _ (s : List ℕ) (room : ℕ) where
           | no l ↦ above low high x (omega arith) h
         ]
 
-    field-meets : (x j : ℕ) → decode s i ≡ Number x j → (x < low) ⊎ (high < x) → fieldSays (fieldAt s i low high f) go ≡ Refused (refusalAt f i)
+    field-meets : (x j : ℕ) → decode s i ≡ Number x j → (x < low) ⊎ (high < x) → fieldSays (fieldAt s i low high f) go ≡ Refused (refusalAt f i 0)
     field-meets x j e h = rw (field-out s i low high f x j e (out x h))
 
-    field-faulty : (k : ℕ) → decode s i ≡ NumberFault k → fieldSays (fieldAt s i low high f) go ≡ Refused (refusalAt k i)
-    field-faulty k e = rw (field-bad s i low high f k e)
+    field-faulty : (k c : ℕ) → decode s i ≡ NumberFault k c → fieldSays (fieldAt s i low high f) go ≡ Refused (refusalAt k i c)
+    field-faulty k c e = rw (field-bad s i low high f k c e)
 
   -- ---- a table
 
@@ -150,7 +150,7 @@ module _ (s : List ℕ) (room : ℕ) where
     unfolding tablesSay
     scheme-passes z h = rw (table-count s room m u i x j e (scheme-good m x (λ q. omega arith) h))
 
-    scheme-meets : (x ≡ 0) ⊎ (2 ^ m ≤ x) → tablesSay (suc k) m u i ≡ Refused (refusalAt 5 i)
+    scheme-meets : (x ≡ 0) ⊎ (2 ^ m ≤ x) → tablesSay (suc k) m u i ≡ Refused (refusalAt 5 i 0)
     unfolding tablesSay
     scheme-meets (inl z) = rw (table-scheme s room m u i x j e (scheme-zero m x z))
     scheme-meets (inr h) = rw (table-scheme s room m u i x j e (scheme-high m x (λ q. omega (arith, pow-pos m)) h))
@@ -165,7 +165,7 @@ module _ (s : List ℕ) (room : ℕ) where
     count-passes h a b =
         rw (count-rows s room x u i c j e (count-good room u x c h a b)) (entry-walk m k (u + c * ones x) x c (rowsFrom c (ones x) s true 0 j))
 
-    count-meets : (f : ℕ) → countFault room u x c ≡ suc f → entrySays m k (countAt s room x u i) ≡ Refused (refusalAt (suc f) i)
+    count-meets : (f : ℕ) → countFault room u x c ≡ suc f → entrySays m k (countAt s room x u i) ≡ Refused (refusalAt (suc f) i 0)
     count-meets f h = rw (count-fault s room x u i c j e (λ z. omega arith), h)
 
   many : (u x c : ℕ) → c ≤ mostRows → (mostCells < u + c * ones x) ⊎ (room < u + c * ones x) → countFault room u x c ≡ 8
@@ -196,17 +196,17 @@ module _ (s : List ℕ) (room : ℕ) where
 
   -- ---- what is at fault decides
 
-  number-decides : (d : Due) (i f : ℕ) → NumberDue d → decode s i ≡ NumberFault f → says d i ≡ Refused (refusalAt f i)
+  number-decides : (d : Due) (i f l : ℕ) → NumberDue d → decode s i ≡ NumberFault f l → says d i ≡ Refused (refusalAt f i l)
   unfolding says tablesSay runEnd
-  number-decides theVersion i f h e = field-faulty i version version 3 (λ v n. headSays n) f e
-  number-decides attributes i f h e = field-faulty i 1 mostAttributes 4 (λ x n. sizeSays x n) f e
-  number-decides (tables m) i f h e = field-faulty i 1 mostTables 4 (λ x q. tablesSay x m 0 q) f e
-  number-decides (table m zero u) i f h e = absurd h
-  number-decides (table m (suc k) u) i f h e = rw (table-bad s room m u i f e)
-  number-decides (rowCount m k u x) i f h e = rw (count-bad s room x u i f e)
-  number-decides (rows m k u x c b) i f h e = absurd h
-  number-decides (cells m k u x c b p zero) i f h e = absurd h
-  number-decides (cells m k u x c b p (suc w)) i f h e = rw e
+  number-decides theVersion i f l h e = field-faulty i version version 3 (λ v n. headSays n) f l e
+  number-decides attributes i f l h e = field-faulty i 1 mostAttributes 4 (λ x n. sizeSays x n) f l e
+  number-decides (tables m) i f l h e = field-faulty i 1 mostTables 4 (λ x q. tablesSay x m 0 q) f l e
+  number-decides (table m zero u) i f l h e = absurd h
+  number-decides (table m (suc k) u) i f l h e = rw (table-bad s room m u i f l e)
+  number-decides (rowCount m k u x) i f l h e = rw (count-bad s room x u i f l e)
+  number-decides (rows m k u x c b) i f l h e = absurd h
+  number-decides (cells m k u x c b p zero) i f l h e = absurd h
+  number-decides (cells m k u x c b p (suc w)) i f l h e = rw e
 
   not-one : (v : ℕ) → (v ≡ version → ⊥) → (v < version) ⊎ (version < v)
   not-one v h =
@@ -220,7 +220,7 @@ module _ (s : List ℕ) (room : ℕ) where
 
   decides : {d : Due} {i : ℕ} {f : Fault} → Meets s room d i f → says d i ≡ Refused f
   unfolding says tablesSay runEnd
-  decides (number {d = d} {i = i} {f = f} h e) = number-decides d i f h e
+  decides (number {d = d} {i = i} {f = f} {c = c} h e) = number-decides d i f c h e
   decides (other-version {i = i} {j = j} {v = v} e h) = field-meets i version version 3 (λ x n. headSays n) v j e (not-one v h)
   decides (m-out {i = i} {j = j} {m = m} e h) = field-meets i 1 mostAttributes 4 (λ x n. sizeSays x n) m j e h
   decides (n-out {i = i} {j = j} {m = m} {n = n} e h) = field-meets i 1 mostTables 4 (λ x q. tablesSay x m 0 q) n j e h

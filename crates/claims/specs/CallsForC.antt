@@ -4,7 +4,7 @@ use Prim.Native.Nat.{ℕ, _/_, _%_, _≤_, _<_}
 use mathlib.Core.Path.{_≡_}
 use mathlib.Core.Logic.{_⊎_, _↔_}
 use mathlib.Core.List.{List, [], _∷_}
-use lib.ListN.{length}
+use lib.ListN.{length, set}
 use Rattle.laws.specs.Lists.{put}
 use Rattle.disjunction.specs.Asked.{Asked, everySet, everyWith}
 use Rattle.loader.specs.declared.Fault.{Fault}
@@ -51,14 +51,15 @@ FewToCall w catalogue words result = FewToOpen w catalogue words ⊎ (length res
 
 -- Each call of include/harbour.h but harbour_check (`CheckExact`) and harbour_covers, whose answer is 1 or 0.
 pub record AbiExact : Type 0 where
-  pub load-few : (image cells words : List ℕ) (r : ℕ) (cells′ words′ : List ℕ) → LoadCall image cells words r cells′ words′
+  pub load-few : (image cells words looked : List ℕ) (r : ℕ) (cells′ words′ looked′ : List ℕ) → LoadCall image cells words looked r cells′ words′ looked′
       → (r ≡ tooFewWords) ↔ (length words < catalogueWords)
-  pub load-good : (image cells words : List ℕ) (r : ℕ) (cells′ words′ : List ℕ) → LoadCall image cells words r cells′ words′ → catalogueWords ≤ length words
+  pub load-good : (image cells words looked : List ℕ) (r : ℕ) (cells′ words′ looked′ : List ℕ) → LoadCall image cells words looked r cells′ words′ looked′ → catalogueWords ≤ length words
       → (r ≡ 0) ↔ (scanOf image (length cells) .verdict ≡ Good)
-  -- A refused load: refusal and place are read off; it leaves the cells and gives a catalogue of zeros.
-  pub load-refused : (image cells words : List ℕ) (r : ℕ) (cells′ words′ : List ℕ) → LoadCall image cells words r cells′ words′ → catalogueWords ≤ length words
+  -- A refused load: refusal and place are read off; it leaves the cells, gives a catalogue of zeros and, where a word is lent for it, tells the bytes
+  -- looked at (#107).
+  pub load-refused : (image cells words looked : List ℕ) (r : ℕ) (cells′ words′ looked′ : List ℕ) → LoadCall image cells words looked r cells′ words′ looked′ → catalogueWords ≤ length words
       → (f : Fault) → scanOf image (length cells) .verdict ≡ Refused f
-      → (r % 32 ≡ f .refusal) × (r / 32 ≡ f .place) × (cells′ ≡ cells) × (words′ ≡ put (wordsOf noCatalogue) words)
+      → (r % 32 ≡ f .refusal) × (r / 32 ≡ f .place) × (cells′ ≡ cells) × (words′ ≡ put (wordsOf noCatalogue) words) × (looked′ ≡ set looked 0 (f .looked))
   pub write-few : (words cells out : List ℕ) (r : ℕ) (out′ : List ℕ) → WriteCall words cells out r out′ → (r ≡ tooFewWords) ↔ (length words < catalogueWords)
   pub write-length : (words cells out : List ℕ) (r : ℕ) (out′ : List ℕ) → WriteCall words cells out r out′ → catalogueWords ≤ length words
       → (n : ℕ) → written (catalogueIn words) cells (length out) ≡ Written.Length n → (r % 32 ≡ 0) × (r / 32 ≡ n)

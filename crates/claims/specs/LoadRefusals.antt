@@ -23,23 +23,24 @@ use Rattle.door.specs.Door.{checkOf}
 abbrev pub GoesOn : List ℕ → ℕ → ℕ → Type 0
 GoesOn s i k = (d : ℕ) → d < k → (i + d < length s) × (128 ≤ getD s (i + d) 0)
 
--- "1: the image ends inside a number, or where one is due"
-abbrev pub EndsInside : List ℕ → ℕ → Type 0
-EndsInside s i = (k : ℕ) × (k < mostBytes) × GoesOn s i k × (length s ≤ i + k)
+-- "1: the image ends inside a number, or where one is due": behind c bytes, which are those looked at.
+abbrev pub EndsInside : List ℕ → ℕ → ℕ → Type 0
+EndsInside s i c = (c < mostBytes) × GoesOn s i c × (length s ≤ i + c)
 
--- "2: a number isn't shortest, or its ninth byte has the top bit set"
-abbrev pub NotShortest : List ℕ → ℕ → Type 0
-NotShortest s i = (k : ℕ) × (0 < k) × (k < mostBytes) × GoesOn s i k × (i + k < length s) × (getD s (i + k) 0 ≡ 0)
+-- Request #107: "2 now means a last group of zero after the first byte", the last of the c bytes looked at.
+abbrev pub NotShortest : List ℕ → ℕ → ℕ → Type 0
+NotShortest s i c = (k : ℕ) × (c ≡ suc k) × (0 < k) × (k < mostBytes) × GoesOn s i k × (i + k < length s) × (getD s (i + k) 0 ≡ 0)
 
--- "Its ninth byte has the top bit set": nine bytes have.
-abbrev pub TooLong : List ℕ → ℕ → Type 0
-TooLong s i = GoesOn s i mostBytes
+-- Request #107: "17 means a ninth byte with its top bit set": nine bytes have, and nine are looked at.
+abbrev pub TooLong : List ℕ → ℕ → ℕ → Type 0
+TooLong s i c = (c ≡ mostBytes) × GoesOn s i mostBytes
 
--- Of the number that is due at place i.
+-- Of the number that is due at place i: each refusal, with how many bytes were looked at.
 pub record NumberExact (s : List ℕ) (i : ℕ) : Type 0 where
-  pub ends : (decode s i ≡ NumberFault 1) ↔ EndsInside s i
-  pub not-good : (decode s i ≡ NumberFault 2) ↔ (NotShortest s i ⊎ TooLong s i)
-  pub no-other : (k : ℕ) → decode s i ≡ NumberFault k → (k ≡ 1) ⊎ (k ≡ 2)
+  pub ends : (c : ℕ) → (decode s i ≡ NumberFault 1 c) ↔ EndsInside s i c
+  pub not-shortest : (c : ℕ) → (decode s i ≡ NumberFault 2 c) ↔ NotShortest s i c
+  pub too-long : (c : ℕ) → (decode s i ≡ NumberFault 17 c) ↔ TooLong s i c
+  pub no-other : (k c : ℕ) → decode s i ≡ NumberFault k c → (k ≡ 1) ⊎ ((k ≡ 2) ⊎ (k ≡ 17))
 
 -- ---- what is due in an image, "in reading order"
 
@@ -94,24 +95,25 @@ pub data Passes (s : List ℕ) (room : ℕ) : Due → ℕ → Due → ℕ → Ty
 
 -- What is due at place i is at fault: the refusal, and its place. "The place is the first byte of the number at fault, for 7 of the row, for 9 of the surplus."
 pub data Meets (s : List ℕ) (room : ℕ) : Due → ℕ → Fault → Type 0 where
-  -- "a number's own faults (1, 2) as it is read, then its meaning"
-  number : {d : Due} {i f : ℕ} → NumberDue d → decode s i ≡ NumberFault f → Meets s room d i (refusalAt f i)
+  -- "a number's own faults (1, 2) as it is read, then its meaning"; request #107: 17 is "met where 2 was", and "the loader passes both on, with count 0
+  -- under other refusals"
+  number : {d : Due} {i f c : ℕ} → NumberDue d → decode s i ≡ NumberFault f c → Meets s room d i (refusalAt f i c)
   -- "3: the version isn't 1"
-  other-version : {i j v : ℕ} → decode s i ≡ Number v j → (v ≡ version → ⊥) → Meets s room theVersion i (refusalAt 3 i)
+  other-version : {i j v : ℕ} → decode s i ≡ Number v j → (v ≡ version → ⊥) → Meets s room theVersion i (refusalAt 3 i 0)
   -- "4: m or n out of range"
-  m-out : {i j m : ℕ} → decode s i ≡ Number m j → (m < 1) ⊎ (mostAttributes < m) → Meets s room attributes i (refusalAt 4 i)
-  n-out : {i j m n : ℕ} → decode s i ≡ Number n j → (n < 1) ⊎ (mostTables < n) → Meets s room (tables m) i (refusalAt 4 i)
+  m-out : {i j m : ℕ} → decode s i ≡ Number m j → (m < 1) ⊎ (mostAttributes < m) → Meets s room attributes i (refusalAt 4 i 0)
+  n-out : {i j m n : ℕ} → decode s i ≡ Number n j → (n < 1) ⊎ (mostTables < n) → Meets s room (tables m) i (refusalAt 4 i 0)
   -- "5: a scheme is 0 or not below 2^m"
-  bad-scheme : {i j m k u x : ℕ} → decode s i ≡ Number x j → (x ≡ 0) ⊎ (2 ^ m ≤ x) → Meets s room (table m (suc k) u) i (refusalAt 5 i)
+  bad-scheme : {i j m k u x : ℕ} → decode s i ≡ Number x j → (x ≡ 0) ⊎ (2 ^ m ≤ x) → Meets s room (table m (suc k) u) i (refusalAt 5 i 0)
   -- "6: more than 255 rows"
-  many-rows : {i j m k u x c : ℕ} → decode s i ≡ Number c j → mostRows < c → Meets s room (rowCount m k u x) i (refusalAt 6 i)
+  many-rows : {i j m k u x c : ℕ} → decode s i ≡ Number c j → mostRows < c → Meets s room (rowCount m k u x) i (refusalAt 6 i 0)
   -- "8: cells so far, this table included, pass 8,192 or the lent cell slice"; "at a row count 6, then 8"
   many-cells : {i j m k u x c : ℕ} → decode s i ≡ Number c j → c ≤ mostRows → (mostCells < u + c * ones x) ⊎ (room < u + c * ones x)
-      → Meets s room (rowCount m k u x) i (refusalAt 8 i)
+      → Meets s room (rowCount m k u x) i (refusalAt 8 i 0)
   -- "7: a row doesn't rise above the one before", "after the row's last cell"
-  not-rising : {i m k u x c p q : ℕ} → below (codes (ones x) s q) (codes (ones x) s p) ≡ false → Meets s room (cells m k u x c (rowAt q) p 0) i (refusalAt 7 p)
+  not-rising : {i m k u x c p q : ℕ} → below (codes (ones x) s q) (codes (ones x) s p) ≡ false → Meets s room (cells m k u x c (rowAt q) p 0) i (refusalAt 7 p 0)
   -- "9: bytes after the last table"
-  surplus : {i m u : ℕ} → i < length s → Meets s room (table m 0 u) i (refusalAt 9 i)
+  surplus : {i m u : ℕ} → i < length s → Meets s room (table m 0 u) i (refusalAt 9 i 0)
 
 -- The reading comes to what is due at a place: nothing before it is at fault.
 pub data Reaches (s : List ℕ) (room : ℕ) : Due → ℕ → Type 0 where
@@ -133,7 +135,7 @@ pub record LoadExact (s : List ℕ) (room : ℕ) : Type 0 where
   pub refuses : (f : Fault) → (scanOf s room .verdict ≡ Refused f) ↔ FirstFault s room f
   pub accepts : (scanOf s room .verdict ≡ Good) ↔ ReadWhole s room
 
--- Of the C door, which "assumes 8,192 cells of room".
+-- Of the C door, which "assumes 8,192 cells of room" and tells no count.
 pub record CheckExact (s : List ℕ) : Type 0 where
-  pub refuses : (k p : ℕ) → k < 32 → 0 < k → (checkOf s ≡ p * 32 + k) ↔ FirstFault s mostCells (refusalAt k p)
+  pub refuses : (k p : ℕ) → k < 32 → 0 < k → (checkOf s ≡ p * 32 + k) ↔ ((c : ℕ) × FirstFault s mostCells (refusalAt k p c))
   pub accepts : (checkOf s ≡ 0) ↔ ReadWhole s mostCells

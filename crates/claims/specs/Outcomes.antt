@@ -58,8 +58,8 @@ pub record OneOutcome : Type 0 where
   pub «check_list» : (cat : Catalogue) (cells words : List ℕ) (r r′ : ListVerdict) → ChecksList cat cells words r → ChecksList cat cells words r′ → r ≡ r′
   pub check : (s : List ℕ) (r r′ : ℕ) → Checks s r → Checks s r′ → r ≡ r′
   -- The calls for C.
-  pub «harbour_load» : (image cells words : List ℕ) (r r′ : ℕ) (cs ws cs′ ws′ : List ℕ)
-      → LoadCall image cells words r cs ws → LoadCall image cells words r′ cs′ ws′ → (r ≡ r′) × (cs ≡ cs′) × (ws ≡ ws′)
+  pub «harbour_load» : (image cells words looked : List ℕ) (r r′ : ℕ) (cs ws ls cs′ ws′ ls′ : List ℕ)
+      → LoadCall image cells words looked r cs ws ls → LoadCall image cells words looked r′ cs′ ws′ ls′ → (r ≡ r′) × (cs ≡ cs′) × (ws ≡ ws′) × (ls ≡ ls′)
   pub «harbour_write» : (words cells out : List ℕ) (r r′ : ℕ) (o o′ : List ℕ)
       → WriteCall words cells out r o → WriteCall words cells out r′ o′ → (r ≡ r′) × (o ≡ o′)
   pub «harbour_open» : (catalogue cells keys left right words : List ℕ) (r r′ : ℕ) (ks ls rs ws ks′ ls′ rs′ ws′ : List ℕ)

@@ -33,7 +33,8 @@ use Rattle.walks.specs.Firsts.{FirstIn}
 use Rattle.sets.specs.Promises.{Comes}
 use Rattle.hub.specs.declared.ListVerdict.the-variants.{Right, Missing, Refused}
 use Rattle.hub.specs.Verdicts.{right, entry, missing, listed, seek, spoilt, tried, triedOn, reached, verdict, Sound}
-use Rattle.hub.specs.Promises.{wordSet, wordSets, among, answerOf, outOf, refusedOr, checked}
+use Rattle.hub.specs.Promises.{wordSet, wordSets, answerOf, refusedOr, checked}
+use Rattle.hub.specs.Searching.{among, outOf}
 use Rattle.hub.proofs.VerdictLaws.{listed-iff, seek-cases, tried-from, empty-none, empty-some, reached-maximal, spoilt-iff, good-sound}
 use Rattle.hub.proofs.KeyVerdicts.{named-word, lost-word, sets-length, sets-at, among-iff, maximal-named, maximal-key, spoilt-key, listed-key}
 

@@ -27,7 +27,8 @@ use Rattle.rows.proofs.NamedLaws.{named-iff, named-zero, named-key, valid-set, 
 use Rattle.hub.specs.declared.ListVerdict.{ListVerdict}
 use Rattle.hub.specs.declared.ListVerdict.the-variants.{Right, Entry, Missing, Refused}
 use Rattle.hub.specs.Verdicts.{Verdict, right, entry, missing, FirstOut, Spoilt, reached, verdict, Sound}
-use Rattle.hub.specs.Promises.{wordSet, wordSets, among, answerOf, MaximalKey, SpoiltKey, SoundKeys, RightKeys, FirstOutKey}
+use Rattle.hub.specs.Promises.{wordSet, wordSets, answerOf, MaximalKey, SpoiltKey, SoundKeys, RightKeys, FirstOutKey}
+use Rattle.hub.specs.Searching.{among}
 use Rattle.hub.proofs.VerdictLaws.{reached-maximal, verdict-right, verdict-entry, verdict-missing, missing-maximal}
 
 -- ---- the set of a word

@@ -17,7 +17,7 @@ use Rattle.store.specs.Good.{Key, GoodStore}
 use Rattle.store.specs.declared.Looked.{Looked}
 use Rattle.store.specs.declared.Looked.the-variants.{Found, Absent, Damaged}
 use Rattle.store.proofs.StoreLaws.{Offered, offered, started, absent-place}
-use Rattle.hub.specs.Promises.{among, Linked, recordsOf, Enters}
+use Rattle.hub.specs.Searching.{among, Linked, recordsOf, Enters}
 use Rattle.hub.proofs.KeyVerdicts.{among-iff}
 
 -- What a search says of the first k words.

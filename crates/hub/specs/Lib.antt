@@ -1,2 +1,3 @@
 pub mod Verdicts
 pub mod Promises
+pub mod Searching

@@ -1,13 +1,11 @@
 -- What the check of the hub's list promises: the verdict of specs/Verdicts on the sets that the listed words name, behind the catalogue's refusals. And
 -- what the verdicts say of the words themselves (proofs/KeyVerdicts). Assumes nothing.
-use Prim.Native.Nat.{ℕ, zero, suc, _+_, _≤_, _<_, min}
+use Prim.Native.Nat.{ℕ, zero, suc, _<_}
 use mathlib.Core.Path.{_≡_}
 use mathlib.Core.Logic.{_⊎_}
-use mathlib.Core.Bool.{Bool, false, cond}
+use mathlib.Core.Bool.{cond}
 use mathlib.Core.List.{List, [], _∷_, _++_, map, List·Memᴰ}
 use lib.ListN.{length, getD}
-use lib.Dec.{eqb}
-use Rattle.laws.specs.Tests.{any}
 use Rattle.laws.specs.Distinct.{Distinct}
 use Rattle.keys.specs.Keys.{bitsPerRow, keyOf}
 use Rattle.tables.specs.declared.Catalogue.{Catalogue}
@@ -15,12 +13,9 @@ use Rattle.tables.specs.Checks.{catalogueFault}
 use Rattle.disjunction.specs.Sets.{Maximal}
 use Rattle.rows.specs.World.{worldOf, setOf}
 use Rattle.rows.specs.Named.{named}
-use Rattle.store.specs.Store.{storeIn, mostRecords, linkOf}
-use Rattle.walks.specs.Firsts.{FirstIn}
-use Rattle.store.specs.Good.{GoodStore}
 use Rattle.hub.specs.declared.ListVerdict.{ListVerdict}
 use Rattle.hub.specs.declared.ListVerdict.the-variants.{Right, Entry, Missing, Refused}
-use Rattle.hub.specs.Verdicts.{Verdict, right, entry, missing, spoilt, reached, verdict}
+use Rattle.hub.specs.Verdicts.{Verdict, right, entry, missing, reached, verdict}
 
 -- The set that a listed word names. A word that is 0, or that names a missing row or a table from n on, names no row.
 unfoldable pub wordSet : Catalogue → ℕ → List ℕ
@@ -30,42 +25,11 @@ wordSet cat word = cond (named cat word) (setOf cat word) []
 abbrev pub wordSets : Catalogue → List ℕ → List (List ℕ)
 wordSets cat words = map (wordSet cat) words
 
--- One of the first k words is this.
-unfoldable pub among : List ℕ → ℕ → ℕ → Bool
-among words k word = any k (λ j. eqb (getD words j 0) word)
-
 -- The answer that gives a verdict: a set is named by its key.
 abbrev pub answerOf : Verdict → ListVerdict
 answerOf right = Right
 answerOf (entry i) = Entry i
 answerOf (missing T) = Missing (keyOf bitsPerRow T)
-
--- The key of a set that is not listed; 0, which is no set's, where there is none.
-abbrev pub outOf : Verdict → ℕ
-outOf right = 0
-outOf (entry i) = 0
-outOf (missing T) = keyOf bitsPerRow T
-
--- The first k words lie in a good search tree: the words are its keys, these are its links, and those of records not used yet are 0.
-pub record Linked (n : ℕ) (words left right : List ℕ) (k : ℕ) : Type 0 where
-  pub long-left : length left ≡ mostRecords
-  pub long-right : length right ≡ mostRecords
-  pub good : 0 < k → GoodStore bitsPerRow n (storeIn words left right k)
-  pub bare : (s : Bool) (p : ℕ) → k ≤ p → linkOf left right s p ≡ 0
-
--- How many of so many words have a record.
-abbrev pub recordsOf : ℕ → ℕ
-recordsOf k = min k mostRecords
-
--- What entering word i promises: whether it repeats an earlier one; if not, it is in the tree too.
-pub record Enters (n : ℕ) (words : List ℕ) (i : ℕ) (r : Bool) (left right : List ℕ) : Type 0 where
-  pub repeats : r ≡ among words i (getD words i 0)
-  pub linked : r ≡ false → Linked n words left right (recordsOf (i + 1))
-
--- What the first pass promises: the first spoilt entry, or that there is none (their number); then all of them are in the tree.
-pub record Spoils (cat : Catalogue) (cells words : List ℕ) (r : ℕ) (left right : List ℕ) : Type 0 where
-  pub first : FirstIn (length words) (spoilt (worldOf cat cells) (wordSets cat words)) r
-  pub linked : r ≡ length words → Linked (cat .n) words left right (recordsOf (length words))
 
 -- "Refusals: 4, 5, 6 and 8 over the catalogue, as in open."
 abbrev pub refusedOr : ℕ → ListVerdict → ListVerdict

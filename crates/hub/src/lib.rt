@@ -15,7 +15,8 @@ ghost use Rattle.rows.specs.World.{worldOf, setOf, placeOf};
 ghost use Rattle.rows.specs.Named.{Named, There};
 ghost use Rattle.store.specs.Good.{Key};
 ghost use Rattle.hub.specs.Verdicts.{seek, tried, triedOn, verdict, Sound};
-ghost use Rattle.hub.specs.Promises.{wordSet, wordSets, among, answerOf, outOf, Linked, recordsOf, Enters, Spoils, checked, ChecksList};
+ghost use Rattle.hub.specs.Promises.{wordSet, wordSets, answerOf, checked, ChecksList};
+ghost use Rattle.hub.specs.Searching.{among, outOf, Linked, recordsOf, Enters, Spoils};
 use sets::Layout;
 use store::Looked;
 use tables::Catalogue;
@@ -33,6 +34,7 @@ pub enum ListVerdict {
 }
 
 // Whether the trial of the set's own row in table t gives the set back; where it has no row of t, nothing is tried.
+// A set that comes back for each of its rows is maximal, and no other does.
 fn gives_back(cat: Catalogue, cells: &[u64], layout: Layout, key: u64, t: usize) -> bool
     requires { ⌜ Lawful cat (length (now cells)) × LaidOut cat (now cells) layout × Named cat key × (t < cat .n) ⌝ }
     ensures { λ r. ⌜ r ≡ givesBack (worldOf cat (now (cells .entry))) (setOf cat key) t ⌝ }
@@ -85,6 +87,7 @@ fn among_from(listed: &[u64], from: usize, to: usize, word: u64) -> bool
 }
 
 // How many of so many words have a record in the tree.
+// A list may be longer than a tree.
 fn records_of(words: usize) -> usize
     ensures { λ r. ⌜ r ≡ recordsOf words ⌝ }
 {
@@ -96,6 +99,7 @@ fn records_of(words: usize) -> usize
 }
 
 // Whether one of the words before place `to` is this one: a search of the tree, and for those without a record a look at each.
+// Every search of the check is this one, so that its time does not grow with the list.
 fn in_list(listed: &[u64], left: &[u16], right: &[u16], n: usize, to: usize, word: u64) -> bool
     requires { ⌜ (n ≤ mostTables) × (to ≤ length (now listed)) × Key bitsPerRow n word × Linked n (now listed) (now left) (now right) (recordsOf to) ⌝ }
     ensures { λ r. ⌜ r ≡ among (now (listed .entry)) to word ⌝ }
@@ -117,6 +121,7 @@ fn in_list(listed: &[u64], left: &[u16], right: &[u16], n: usize, to: usize, wor
 }
 
 // Whether entry i repeats an earlier one; if not, it comes into the tree, where there is a record for it.
+// The word lies in the list already, so that one link is all that is written.
 fn enter(listed: &[u64], left: &mut [u16], right: &mut [u16], n: usize, i: usize) -> bool
     requires { ⌜ (n ≤ mostTables) × (i < length (now listed)) × Key bitsPerRow n (getD (now listed) i 0) × Linked n (now listed) (now left) (now right) (recordsOf i) ⌝ }
     ensures { λ r. ⌜ Enters n (now (listed .entry)) i r (now (left .exit)) (now (right .exit)) ⌝ }
@@ -144,6 +149,7 @@ fn enter(listed: &[u64], left: &mut [u16], right: &mut [u16], n: usize, i: usize
 }
 
 // The first entry that is not a maximal set or repeats an earlier one; the list's length where there is none, and then all are in the tree.
+// Entries are judged before any set is looked for that is missing.
 fn first_spoilt(
     cat: Catalogue,
     cells: &[u64],
@@ -186,6 +192,7 @@ fn reached_by(cat: Catalogue, cells: &[u64], layout: Layout, key: u64, row: Row)
 }
 
 // The key of the first set that the trials of all rows on a listed set reach and that is not listed; 0 where there is none.
+// 0 is no set's key.
 fn first_out(
     cat: Catalogue,
     cells: &[u64],
@@ -214,6 +221,7 @@ fn first_out(
 }
 
 // The key of the first set not listed that the trials over the listed sets reach, entries in the hub's order and rows in row order; 0 where there is none.
+// A list that no trial leaves holds every maximal set.
 fn first_missing(
     cat: Catalogue,
     cells: &[u64],
@@ -239,6 +247,7 @@ fn first_missing(
 }
 
 // The verdict on the empty list: right where there is no row, else the first row's extension is missing.
+// There is no listed set on which a row could be tried.
 fn judge_none(cat: Catalogue, cells: &[u64], layout: Layout) -> ListVerdict
     requires { ⌜ Lawful cat (length (now cells)) × LaidOut cat (now cells) layout ⌝ }
     ensures { λ r. ⌜ r ≡ answerOf (verdict (worldOf cat (now (cells .entry))) []) ⌝ }
@@ -254,6 +263,7 @@ fn judge_none(cat: Catalogue, cells: &[u64], layout: Layout) -> ListVerdict
 }
 
 // The verdict on a list, behind the catalogue's refusals: the entries first, then what their trials reach.
+// The links of the tree lie here, in 262 kB of stack; there is no heap.
 fn judge(cat: Catalogue, cells: &[u64], listed: &[u64]) -> ListVerdict
     requires { ⌜ Lawful cat (length (now cells)) ⌝ }
     ensures { λ r. ⌜ r ≡ answerOf (verdict (worldOf cat (now (cells .entry))) (wordSets cat (now (listed .entry)))) ⌝ }

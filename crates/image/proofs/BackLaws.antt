@@ -160,7 +160,7 @@ module _ (s : List ℕ) (room m n : ℕ) (cat : Catalogue) where
       → (length s ≤ i) × (cat ≡ record { m = m; n = n; schemes = xs; rows = cs })
   unfolding tablesFrom
   end-was t used xs cs i q =
-      let c = cond-was (found cat) (ltb i (length s)) (refused (refusalAt 9 i)) (found (record { m = m; n = n; schemes = xs; rows = cs })) (no-good (refusalAt 9 i) cat) q in
+      let c = cond-was (found cat) (ltb i (length s)) (refused (refusalAt 9 i 0)) (found (record { m = m; n = n; schemes = xs; rows = cs })) (no-good (refusalAt 9 i 0) cat) q in
       (ltb-false i (length s) (c .0), sym (ap (λ (l : Loaded). l .catalogue) (c .1)))
 
   more-was : {P : Type 0} (k t used : ℕ) (xs cs : List ℕ) (i : ℕ) → tablesFrom (suc k) s room m n t used xs cs i ≡ found cat
@@ -287,9 +287,9 @@ inside-was low high x e =
 field-back : (s : List ℕ) → ((k : ℕ) → getD s k 0 < 256) → (i low high f x n : ℕ) → high < 128 → fieldAt s i low high f ≡ Value x n → FieldBack s i low high x n
 unfolding fieldAt
 field-back s by i low high f x n h e =
-    number-was (Value x n) (decode s i) (λ y k. cond (outside low high y) (FieldFault (refusalAt f i)) (Value y k)) (λ k. FieldFault (refusalAt k i)) (λ k. no-field (refusalAt k i) x n) e
+    number-was (Value x n) (decode s i) (λ y k. cond (outside low high y) (FieldFault (refusalAt f i 0)) (Value y k)) (λ k c. FieldFault (refusalAt k i c)) (λ k c. no-field (refusalAt k i c) x n) e
     (λ y k d g.
-    let c = cond-was (Value x n) (outside low high y) (FieldFault (refusalAt f i)) (Value y k) (no-field (refusalAt f i) x n) g in
+    let c = cond-was (Value x n) (outside low high y) (FieldFault (refusalAt f i 0)) (Value y k) (no-field (refusalAt f i 0) x n) g in
     let v : Value y k ≡ Value x n = c .1 in
     let ex : y ≡ x = cc in
     let en : k ≡ n = cc in

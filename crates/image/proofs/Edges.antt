@@ -11,7 +11,7 @@ use Rattle.image.specs.Edges.{NumberEdges, ImageEdges}
 
 pub number-edges : NumberEdges
 unfolding encode decode
-number-edges = record { zero-is = refl; one-group = refl; two-groups = refl; largest = refl; not-shortest = refl }
+number-edges = record { zero-is = refl; one-group = refl; two-groups = refl; largest = refl; ends-inside = refl; too-long = refl; not-shortest = refl }
 
 pub image-edges : ImageEdges
 unfolding decode ones onesIn rowsBefore below badScheme countFault runEnd codes rowsFrom fieldAt countAt tableAt tablesFrom scanOf tablesCodes

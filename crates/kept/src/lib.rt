@@ -1,5 +1,5 @@
 // Callers of the public calls, one for each, that promise what they were promised and do nothing else.
-// They are here for the check: a public contract that loses its promise, or says less, is not enough for its caller here.
+// They are here for the check: a public contract that loses its promise, or says less, is not enough for its caller here. Nothing else calls them.
 ghost use Rattle.loader.specs.Load.{Loads};
 ghost use Rattle.writer.specs.Write.{Writes};
 ghost use Rattle.padding.specs.Covering.{Covers};
@@ -109,10 +109,10 @@ pub fn check(image: &[u8]) -> u64
 }
 
 // Calls `abi::harbour_load`.
-pub fn load_words(image: &[u8], cells: &mut [u64], catalogue: &mut [u64]) -> u64
-    ensures { λ r. ⌜ LoadCall (now (image .entry)) (now (cells .entry)) (now (catalogue .entry)) r (now (cells .exit)) (now (catalogue .exit)) ⌝ }
+pub fn load_words(image: &[u8], cells: &mut [u64], catalogue: &mut [u64], looked: &mut [u64]) -> u64
+    ensures { λ r. ⌜ LoadCall (now (image .entry)) (now (cells .entry)) (now (catalogue .entry)) (now (looked .entry)) r (now (cells .exit)) (now (catalogue .exit)) (now (looked .exit)) ⌝ }
 {
-    abi::harbour_load(image, cells, catalogue)
+    abi::harbour_load(image, cells, catalogue, looked)
 }
 
 // Calls `abi::harbour_write`.

@@ -1,11 +1,11 @@
 -- The listing's text, one law for each way that the code goes: a call's line and what follows it, the first line, the lines of refused and of longer
 -- input, and how long a line is at most. Assumes nothing.
-use Prim.Native.Nat.{ℕ, zero, suc, _+_, _-_, _*_, _≤_, _<_}
+use Prim.Native.Nat.{ℕ, zero, suc, _+_, _-_, _≤_, _<_}
 use native.Mathlib.Omega.{arith}
 use native.Mathlib.Numerals.{sub-one}
 use mathlib.Core.Path.{_≡_, refl, sym, ap, _∙_}
 use mathlib.Core.List.{List, [], _∷_, _++_, append-assoc, append-nil}
-use lib.ListN.{length, take, replicate, length-replicate}
+use lib.ListN.{length, take, length-replicate}
 use borrow.Author.Tests.{lt-ltb, le-ltb}
 use Rattle.laws.specs.Lists.{Placed}
 use Rattle.laws.proofs.PlacedLaws.{placed-length, placed-front}
@@ -18,7 +18,7 @@ use Rattle.loader.specs.declared.Fault.{Fault}
 use Rattle.loader.specs.declared.Verdict.{Verdict}
 use Rattle.loader.specs.declared.Verdict.the-variants.{Good, Refused}
 use Rattle.loader.specs.declared.Loaded.{Loaded}
-use Rattle.loader.specs.Load.{firstTable, scanOf, tablesCodes, cellsAfter, Loads}
+use Rattle.loader.specs.Load.{scanOf, Loads}
 use Rattle.machine.specs.Machine.{State, Says, aSet, finished, working, refused, Called, call, Opened, opening}
 use Rattle.machine.proofs.CountLaws.{Small, call-small}
 use Rattle.stream.specs.declared.StepAnswer.{StepAnswer}

@@ -36,29 +36,29 @@ fault-some (suc f) refuse go h = refl
 -- ---- a table
 
 module _ (s : List ℕ) (room x used i : ℕ) where
-  pub count-bad : (k : ℕ) → decode s i ≡ NumberFault k → countAt s room x used i ≡ TableFault (refusalAt k i)
+  pub count-bad : (k l : ℕ) → decode s i ≡ NumberFault k l → countAt s room x used i ≡ TableFault (refusalAt k i l)
   unfolding countAt
-  count-bad k e = rw e
+  count-bad k l e = rw e
 
   module _ (c n : ℕ) (e : decode s i ≡ Number c n) where
     -- What the row count's rows come to.
     abbrev pub rowsEntry : Entry
     rowsEntry = entryOf x c (used + c * ones x) (rowsFrom c (ones x) s true 0 n)
 
-    pub count-fault : (countFault room used x c ≡ 0 → ⊥) → countAt s room x used i ≡ TableFault (refusalAt (countFault room used x c) i)
+    pub count-fault : (countFault room used x c ≡ 0 → ⊥) → countAt s room x used i ≡ TableFault (refusalAt (countFault room used x c) i 0)
     unfolding countAt
-    count-fault h = rw e (fault-some (countFault room used x c) (λ k. TableFault (refusalAt k i)) rowsEntry h)
+    count-fault h = rw e (fault-some (countFault room used x c) (λ k. TableFault (refusalAt k i 0)) rowsEntry h)
 
     pub count-rows : countFault room used x c ≡ 0 → countAt s room x used i ≡ rowsEntry
     unfolding countAt
     count-rows h = rw (e, h)
 
 module _ (s : List ℕ) (room m used i : ℕ) where
-  pub table-bad : (k : ℕ) → decode s i ≡ NumberFault k → tableAt s room m used i ≡ TableFault (refusalAt k i)
+  pub table-bad : (k l : ℕ) → decode s i ≡ NumberFault k l → tableAt s room m used i ≡ TableFault (refusalAt k i l)
   unfolding tableAt
-  table-bad k e = rw e
+  table-bad k l e = rw e
 
-  pub table-scheme : (x n : ℕ) → decode s i ≡ Number x n → badScheme m x ≡ true → tableAt s room m used i ≡ TableFault (refusalAt 5 i)
+  pub table-scheme : (x n : ℕ) → decode s i ≡ Number x n → badScheme m x ≡ true → tableAt s room m used i ≡ TableFault (refusalAt 5 i 0)
   unfolding tableAt
   table-scheme x n e b = rw (e, b)
 
@@ -103,19 +103,19 @@ module _ (s : List ℕ) (room m used i x c u e : ℕ) (a : tableAt s room m used
 
   good-count : (y n : ℕ) → decode s i ≡ Number y n → badScheme m y ≡ false → countAt s room y used n ≡ Table x c u e
       → (d : Reading) → decode s n ≡ d → GoodTable s room m used i x c u e
-  good-count y n p b g (NumberFault k) d = no-table _ (refusalAt k n) x c u e (count-bad s room y used n k d) g
+  good-count y n p b g (NumberFault k l) d = no-table _ (refusalAt k n l) x c u e (count-bad s room y used n k l d) g
   good-count y n p b g (Number v q) d =
       elim (ℕ-discrete (countFault room used y v) 0) [
-        | no h ↦ no-table _ (refusalAt (countFault room used y v) n) x c u e (count-fault s room y used n v q d h) g
+        | no h ↦ no-table _ (refusalAt (countFault room used y v) n 0) x c u e (count-fault s room y used n v q d h) g
         | yes h ↦ good-rows y v n q p b d h (rowsFrom v (ones y) s true 0 q) refl (sym (count-rows s room y used n v q d h) ∙ g)
       ]
 
   good-scheme : (d : Reading) → decode s i ≡ d → GoodTable s room m used i x c u e
-  good-scheme (NumberFault k) d = no-table _ (refusalAt k i) x c u e (table-bad s room m used i k d) a
+  good-scheme (NumberFault k l) d = no-table _ (refusalAt k i l) x c u e (table-bad s room m used i k l d) a
   good-scheme (Number y n) d = pick (badScheme m y) refl
     where
       pick : (b : Bool) → badScheme m y ≡ b → GoodTable s room m used i x c u e
-      pick true b = no-table _ (refusalAt 5 i) x c u e (table-scheme s room m used i y n d b) a
+      pick true b = no-table _ (refusalAt 5 i 0) x c u e (table-scheme s room m used i y n d b) a
       pick false b = good-count y n d b (sym (table-count s room m used i y n d b) ∙ a) (decode s n) refl
 
   pub good-table : GoodTable s room m used i x c u e
@@ -127,7 +127,7 @@ good-clear s room m used i x c u e g = fault-clear m room used x c (checks.table
 -- ---- the tables
 
 module _ (s : List ℕ) (room m n t used : ℕ) (xs cs : List ℕ) (i : ℕ) where
-  pub tables-over : (k : ℕ) → k ≤ 0 → i < length s → tablesFrom k s room m n t used xs cs i ≡ refused (refusalAt 9 i)
+  pub tables-over : (k : ℕ) → k ≤ 0 → i < length s → tablesFrom k s room m n t used xs cs i ≡ refused (refusalAt 9 i 0)
   unfolding tablesFrom
   tables-over zero z h = rw (lt-ltb i (length s) h)
   tables-over (suc k) z h = absurd (omega arith)
@@ -152,11 +152,11 @@ module _ (s : List ℕ) (room m n t used : ℕ) (xs cs : List ℕ) (i : ℕ) whe
 -- ---- the head
 
 module _ (s : List ℕ) (i low high f : ℕ) where
-  pub field-bad : (k : ℕ) → decode s i ≡ NumberFault k → fieldAt s i low high f ≡ FieldFault (refusalAt k i)
+  pub field-bad : (k l : ℕ) → decode s i ≡ NumberFault k l → fieldAt s i low high f ≡ FieldFault (refusalAt k i l)
   unfolding fieldAt
-  field-bad k e = rw e
+  field-bad k l e = rw e
 
-  pub field-out : (x n : ℕ) → decode s i ≡ Number x n → outside low high x ≡ true → fieldAt s i low high f ≡ FieldFault (refusalAt f i)
+  pub field-out : (x n : ℕ) → decode s i ≡ Number x n → outside low high x ≡ true → fieldAt s i low high f ≡ FieldFault (refusalAt f i 0)
   unfolding fieldAt
   field-out x n e h = rw (e, h)
 
@@ -175,12 +175,12 @@ pub record GoodField (s : List ℕ) (i low high x n : ℕ) : Type 0 where
 
 module _ (s : List ℕ) (i low high f x n : ℕ) (e : fieldAt s i low high f ≡ Value x n) where
   field-number : (d : Reading) → decode s i ≡ d → GoodField s i low high x n
-  field-number (NumberFault k) d = no-field _ (refusalAt k i) x n (field-bad s i low high f k d) e
+  field-number (NumberFault k l) d = no-field _ (refusalAt k i l) x n (field-bad s i low high f k l d) e
   field-number (Number y m) d =
       elim (decLt y low) [
-        | yes h ↦ no-field _ (refusalAt f i) x n (field-out s i low high f y m d (below low high y h)) e
+        | yes h ↦ no-field _ (refusalAt f i 0) x n (field-out s i low high f y m d (below low high y h)) e
         | no h ↦ elim (decLt high y) [
-          | yes l ↦ no-field _ (refusalAt f i) x n (field-out s i low high f y m d (above low high y (omega arith) l)) e
+          | yes l ↦ no-field _ (refusalAt f i 0) x n (field-out s i low high f y m d (above low high y (omega arith) l)) e
           | no l ↦
               let a = field-in s i low high f y m d (inside low high y (omega arith) (omega arith)) in
               let p : y ≡ x = cc in

@@ -1,4 +1,4 @@
--- No refusal of the first pass is placed far from the start, since a number takes nine bytes at most, and its number is 9 at most: so the door's number
+-- No refusal of the first pass is placed far from the start, since a number takes nine bytes at most, and its number is 17 at most: so the door's number
 -- fits and tells both. Assumes nothing.
 use Prim.Native.Nat.{ℕ, zero, suc, _+_, _*_, _≤_}
 use native.Mathlib.Nat.{suc-mul}
@@ -42,9 +42,9 @@ walk-near a b (To n) l h = omega arith
 walk-near a b (WalkFault f) l h = omega arith
 
 run-near-step : (w : ℕ) (s : List ℕ) (i : ℕ) (d : Reading) → Near (i + 9) d → ((n : ℕ) → NearWalk (n + 9 * w) (runEnd w s n))
-    → NearWalk (i + 9 * suc w) (onNumber d (λ x n. runEnd w s n) (λ k. WalkFault (refusalAt k i)))
+    → NearWalk (i + 9 * suc w) (onNumber d (λ x n. runEnd w s n) (λ k c. WalkFault (refusalAt k i c)))
 run-near-step w s i (Number x n) h ih = walk-near (n + 9 * w) (i + 9 * suc w) (runEnd w s n) (omega arith) (ih n)
-run-near-step w s i (NumberFault k) h ih = omega arith
+run-near-step w s i (NumberFault k c) h ih = omega arith
 
 run-near : (w : ℕ) (s : List ℕ) (i : ℕ) → NearWalk (i + 9 * w) (runEnd w s i)
 unfolding runEnd
@@ -52,7 +52,7 @@ run-near zero s i = omega arith
 run-near (suc w) s i = run-near-step w s i (decode s i) (decode-near s i) (λ n. run-near w s n)
 
 rows-near-step : (k w : ℕ) (s : List ℕ) (i : ℕ) (d : Walk) (t : Bool) → NearWalk (i + 9 * w) d → ((n : ℕ) → NearWalk (n + 9 * (k * w)) (rowsFrom k w s false i n))
-    → NearWalk (i + 9 * (suc k * w)) (onWalk d (λ n. cond t (rowsFrom k w s false i n) (WalkFault (refusalAt 7 i))))
+    → NearWalk (i + 9 * (suc k * w)) (onWalk d (λ n. cond t (rowsFrom k w s false i n) (WalkFault (refusalAt 7 i 0))))
 rows-near-step k w s i (To n) true h ih = walk-near (n + 9 * (k * w)) (i + 9 * (suc k * w)) (rowsFrom k w s false i n) (omega (arith, suc-mul k w)) (ih n)
 rows-near-step k w s i (To n) false h ih = omega arith
 rows-near-step k w s i (WalkFault f) t h ih = omega (arith, suc-mul k w)
@@ -86,7 +86,7 @@ count-near : (s : List ℕ) (room x used i : ℕ) → NearEntry (i + 9 + 9 * mos
 count-near s room x used i = pick (decode s i) refl (decode-near s i)
   where
     pick : (d : Reading) → decode s i ≡ d → Near (i + 9) (decode s i) → NearEntry (i + 9 + 9 * mostCells) (countAt s room x used i)
-    pick (NumberFault k) d h = let l : k ≤ 2 = rw d at h in rw (count-bad s room x used i k d) (omega arith)
+    pick (NumberFault k q) d h = let l : k ≤ 17 = rw d at h in rw (count-bad s room x used i k q d) (omega arith)
     pick (Number c n) d h =
         let l : n ≤ i + 9 = rw d at h in
         elim (ℕ-discrete (countFault room used x c) 0) [
@@ -109,7 +109,7 @@ table-near s room m used i = pick (decode s i) refl (decode-near s i)
     scheme x n l d false b = rw (table-count s room m used i x n d b) (farther n (countAt s room x used n) l (count-near s room x used n))
 
     pick : (d : Reading) → decode s i ≡ d → Near (i + 9) (decode s i) → NearEntry (i + 18 + 9 * mostCells) (tableAt s room m used i)
-    pick (NumberFault k) d h = let l : k ≤ 2 = rw d at h in rw (table-bad s room m used i k d) (omega arith)
+    pick (NumberFault k q) d h = let l : k ≤ 17 = rw d at h in rw (table-bad s room m used i k q d) (omega arith)
     pick (Number x n) d h = scheme x n (rw d at h) d (badScheme m x) refl
 
 -- ---- the whole
@@ -123,7 +123,7 @@ tables-near : (k : ℕ) (s : List ℕ) (room m n t used : ℕ) (xs cs : List ℕ
 unfolding tablesFrom
 tables-near zero s room m n t used xs cs i = pick (ltb i (length s))
   where
-    pick : (b : Bool) → NearVerdict (i + (18 + 9 * mostCells) * 0) (cond b (refused (refusalAt 9 i)) (record { verdict = Good; catalogue = record { m = m; n = n; schemes = xs; rows = cs } }) .verdict)
+    pick : (b : Bool) → NearVerdict (i + (18 + 9 * mostCells) * 0) (cond b (refused (refusalAt 9 i 0)) (record { verdict = Good; catalogue = record { m = m; n = n; schemes = xs; rows = cs } }) .verdict)
     pick true = omega arith
     pick false = tt
 tables-near (suc k) s room m n t used xs cs i = pick (tableAt s room m used i) (table-near s room m used i) (λ x c u e. tables-near k s room m n (t + 1) u (set xs t x) (set cs t c) e)
@@ -144,15 +144,15 @@ field-near : (s : List ℕ) (i low high f : ℕ) → f ≤ 9 → NearField (i + 
 unfolding fieldAt
 field-near s i low high f l = pick (decode s i) (decode-near s i)
   where
-    test : (t : Bool) (x n : ℕ) → n ≤ i + 9 → NearField (i + 9) (cond t (FieldFault (refusalAt f i)) (Value x n))
+    test : (t : Bool) (x n : ℕ) → n ≤ i + 9 → NearField (i + 9) (cond t (FieldFault (refusalAt f i 0)) (Value x n))
     test true x n h = omega arith
     test false x n h = h
 
-    pick : (d : Reading) → Near (i + 9) d → NearField (i + 9) (onNumber d (λ x n. cond (outside low high x) (FieldFault (refusalAt f i)) (Value x n)) (λ k. FieldFault (refusalAt k i)))
+    pick : (d : Reading) → Near (i + 9) d → NearField (i + 9) (onNumber d (λ x n. cond (outside low high x) (FieldFault (refusalAt f i 0)) (Value x n)) (λ k c. FieldFault (refusalAt k i c)))
     pick (Number x n) h = test (outside low high x) x n h
-    pick (NumberFault k) h = omega arith
+    pick (NumberFault k c) h = omega arith
 
--- No refusal is placed beyond the farthest place, and none has a number above 9.
+-- No refusal is placed beyond the farthest place, and none has a number above 17.
 pub scan-near : (s : List ℕ) (room : ℕ) → NearVerdict farthest (scanOf s room .verdict)
 unfolding scanOf
 scan-near s room = head (fieldAt s 0 version version 3) (field-near s 0 version version 3 (omega arith))

@@ -27,10 +27,10 @@ unfolding runEnd
 run-more zero s i x n z e = absurd (omega arith)
 run-more (suc k) s i x n z e = rw (sub-one (suc k), e)
 
-pub run-bad : (k : ℕ) (s : List ℕ) (i f : ℕ) → 0 < k → decode s i ≡ NumberFault f → runEnd k s i ≡ WalkFault (refusalAt f i)
+pub run-bad : (k : ℕ) (s : List ℕ) (i f c : ℕ) → 0 < k → decode s i ≡ NumberFault f c → runEnd k s i ≡ WalkFault (refusalAt f i c)
 unfolding runEnd
-run-bad zero s i f z e = absurd (omega arith)
-run-bad (suc k) s i f z e = rw e
+run-bad zero s i f c z e = absurd (omega arith)
+run-bad (suc k) s i f c z e = rw e
 
 pub codes-none : (k : ℕ) (s : List ℕ) (i : ℕ) → k ≤ 0 → codes k s i ≡ []
 unfolding codes
@@ -42,10 +42,10 @@ unfolding codes
 codes-more zero s i x n z e = absurd (omega arith)
 codes-more (suc k) s i x n z e = rw (sub-one (suc k), e)
 
-pub codes-bad : (k : ℕ) (s : List ℕ) (i f : ℕ) → decode s i ≡ NumberFault f → codes k s i ≡ []
+pub codes-bad : (k : ℕ) (s : List ℕ) (i f c : ℕ) → decode s i ≡ NumberFault f c → codes k s i ≡ []
 unfolding codes
-codes-bad zero s i f e = refl
-codes-bad (suc k) s i f e = rw e
+codes-bad zero s i f c e = refl
+codes-bad (suc k) s i f c e = rw e
 
 -- one row more
 pub rows-none : (k w : ℕ) (s : List ℕ) (b : Bool) (p i : ℕ) → k ≤ 0 → rowsFrom k w s b p i ≡ To i
@@ -65,7 +65,7 @@ rows-more zero w s b p i n z e t = absurd (omega arith)
 rows-more (suc k) w s b p i n z e t = rw (sub-one (suc k), e, t)
 
 pub rows-fall : (k w : ℕ) (s : List ℕ) (b : Bool) (p i n : ℕ) → 0 < k → runEnd w s i ≡ To n → (b || below (codes w s p) (codes w s i)) ≡ false
-    → rowsFrom k w s b p i ≡ WalkFault (refusalAt 7 i)
+    → rowsFrom k w s b p i ≡ WalkFault (refusalAt 7 i 0)
 unfolding rowsFrom
 rows-fall zero w s b p i n z e t = absurd (omega arith)
 rows-fall (suc k) w s b p i n z e t = rw (e, t)
@@ -76,14 +76,14 @@ pub no-walk : {A : Type 0} (o : Walk) (f : Fault) (e : ℕ) → o ≡ WalkFault 
 no-walk o f e a b = absurd (let z : _≡_ {A = ℕ} 0 1 = cc in omega arith)
 
 -- An answer that is no refusal came from a number.
-pub number-was : {A P : Type 0} (a : A) (d : Reading) (go : ℕ → ℕ → A) (refuse : ℕ → A) → ((k : ℕ) → refuse k ≡ a → ⊥) → onNumber d go refuse ≡ a
+pub number-was : {A P : Type 0} (a : A) (d : Reading) (go : ℕ → ℕ → A) (refuse : ℕ → ℕ → A) → ((k c : ℕ) → refuse k c ≡ a → ⊥) → onNumber d go refuse ≡ a
     → ((x n : ℕ) → d ≡ Number x n → go x n ≡ a → P) → P
 number-was a (Number x n) go refuse z e f = f x n refl e
-number-was a (NumberFault k) go refuse z e f = absurd (z k e)
+number-was a (NumberFault k c) go refuse z e f = absurd (z k c e)
 
 pub run-was : (k : ℕ) (s : List ℕ) (i e : ℕ) → runEnd (suc k) s i ≡ To e → (x : ℕ) × (n : ℕ) × (decode s i ≡ Number x n) × (runEnd k s n ≡ To e)
 unfolding runEnd
-run-was k s i e q = number-was (To e) (decode s i) (λ x n. runEnd k s n) (λ f. WalkFault (refusalAt f i)) (λ f. no-walk (WalkFault (refusalAt f i)) (refusalAt f i) e refl) q (λ x n d r. (x, n, d, r))
+run-was k s i e q = number-was (To e) (decode s i) (λ x n. runEnd k s n) (λ f c. WalkFault (refusalAt f i c)) (λ f c. no-walk (WalkFault (refusalAt f i c)) (refusalAt f i c) e refl) q (λ x n d r. (x, n, d, r))
 
 -- w numbers, and k behind them
 pub run-add : (w k : ℕ) (s : List ℕ) (i n : ℕ) → runEnd w s i ≡ To n → (runEnd (w + k) s i ≡ runEnd k s n) × (codes (w + k) s i ≡ codes w s i ++ codes k s n)
@@ -108,9 +108,9 @@ pub rows-was : (k w : ℕ) (s : List ℕ) (first : Bool) (p i e : ℕ) → rowsF
 unfolding rowsFrom
 rows-was k w s first p i e q = by-walk (runEnd w s i) (first || below (codes w s p) (codes w s i)) (λ n. rowsFrom k w s false i n) q
   where
-    by-walk : (d : Walk) (b : Bool) (go : ℕ → Walk) → onWalk d (λ n. cond b (go n) (WalkFault (refusalAt 7 i))) ≡ To e → (n : ℕ) × (d ≡ To n) × (b ≡ true) × (go n ≡ To e)
+    by-walk : (d : Walk) (b : Bool) (go : ℕ → Walk) → onWalk d (λ n. cond b (go n) (WalkFault (refusalAt 7 i 0))) ≡ To e → (n : ℕ) × (d ≡ To n) × (b ≡ true) × (go n ≡ To e)
     by-walk (To n) true go q = (n, refl, refl, q)
-    by-walk (To n) false go q = no-walk (WalkFault (refusalAt 7 i)) (refusalAt 7 i) e refl q
+    by-walk (To n) false go q = no-walk (WalkFault (refusalAt 7 i 0)) (refusalAt 7 i 0) e refl q
     by-walk (WalkFault f) b go q = no-walk (WalkFault f) f e refl q
 
 pub row-cells : (k w : ℕ) → suc k * w ≡ w + k * w

@@ -68,14 +68,14 @@ module _ (s : List ℕ) (room k used i : ℕ) (z : 0 < k) (F : Fillable s room k
   next : Next s room (F .0) k used i
   next = sound-next s room (F .0) k used i z (F .1)
 
-  pub no-scheme : {A : Type 0} (f : ℕ) → decode s i ≡ NumberFault f → A
-  no-scheme f d = no-number _ f _ _ d (next .table .scheme)
+  pub no-scheme : {A : Type 0} (f l : ℕ) → decode s i ≡ NumberFault f l → A
+  no-scheme f l d = no-number _ f l _ _ d (next .table .scheme)
 
-  pub no-count : {A : Type 0} (x n f : ℕ) → decode s i ≡ Number x n → decode s n ≡ NumberFault f → A
-  no-count x n f a d =
+  pub no-count : {A : Type 0} (x n f l : ℕ) → decode s i ≡ Number x n → decode s n ≡ NumberFault f l → A
+  no-count x n f l a d =
       let b = next .table .scheme in
       let q : n ≡ next .table .n = cc in
-      no-number (decode s (next .table .n)) f (next .c) (next .table .q) (rw q at d) (next .table .count)
+      no-number (decode s (next .table .n)) f l (next .c) (next .table .q) (rw q at d) (next .table .count)
 
   pub turn : (x n c q w : ℕ) → decode s i ≡ Number x n → decode s n ≡ Number c q → w ≡ ones x → Turn s room k used i c q w
   turn x n c q w a b y =
@@ -115,7 +115,7 @@ begun : (k : ℕ) (s : List ℕ) (room m n t used : ℕ) (xs cs : List ℕ) (i :
     → Begun s room m n k used i (tablesFrom k s room m n t used xs cs i)
 begun zero s room m n t used xs cs i g =
     elim (decLt i (length s)) [
-      | yes h ↦ no-good (tablesFrom zero s room m n t used xs cs i) (refusalAt 9 i) (ap (λ (r : Loaded). r .verdict) (tables-over s room m n t used xs cs i zero (omega arith) h)) g
+      | yes h ↦ no-good (tablesFrom zero s room m n t used xs cs i) (refusalAt 9 i 0) (ap (λ (r : Loaded). r .verdict) (tables-over s room m n t used xs cs i zero (omega arith) h)) g
       | no h ↦
           let e = tables-end s room m n t used xs cs i zero (omega arith) (omega arith) in
           record { m-is = ap (λ (r : Loaded). r .catalogue .m) e; n-is = ap (λ (r : Loaded). r .catalogue .n) e; sound = none {used = used} {i = i} (omega arith) }

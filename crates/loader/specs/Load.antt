@@ -1,5 +1,6 @@
 -- "Load reports the first fault in reading order: a number's own faults (1, 2) as it is read, then its meaning; at a row count 6, then 8;
--- 7 after the row's last cell." Refusals stand in the order in which they are met. Assumes nothing.
+-- 7 after the row's last cell." Refusals stand in the order in which they are met; request #107 puts 17
+-- where 2 was. Assumes nothing.
 use Prim.Native.Nat.{ℕ, zero, suc, _+_, _*_, _≤_}
 use mathlib.Core.Path.{_≡_}
 use mathlib.Core.List.{List, [], _++_}
@@ -40,8 +41,8 @@ refused f = record { verdict = Refused f; catalogue = noCatalogue }
 unfoldable pub fieldAt : List ℕ → ℕ → ℕ → ℕ → ℕ → Field
 fieldAt s i low high k =
     onNumber (decode s i)
-    (λ x n. cond (outside low high x) (FieldFault (refusalAt k i)) (Value x n))
-    (λ f. FieldFault (refusalAt f i))
+    (λ x n. cond (outside low high x) (FieldFault (refusalAt k i 0)) (Value x n))
+    (λ f c. FieldFault (refusalAt f i c))
 
 -- Go on with the field's value and the place behind it, or with its refusal.
 abbrev pub onField : Field → (ℕ → ℕ → Loaded) → Loaded
@@ -63,16 +64,16 @@ entryOf scheme rows used (WalkFault f) = TableFault f
 unfoldable pub countAt : List ℕ → ℕ → ℕ → ℕ → ℕ → Entry
 countAt s room scheme used i =
     onNumber (decode s i)
-    (λ rows n. onFault (countFault room used scheme rows) (λ k. TableFault (refusalAt k i))
+    (λ rows n. onFault (countFault room used scheme rows) (λ k. TableFault (refusalAt k i 0))
     (entryOf scheme rows (used + rows * ones scheme) (rowsFrom rows (ones scheme) s true 0 n)))
-    (λ f. TableFault (refusalAt f i))
+    (λ f c. TableFault (refusalAt f i c))
 
 -- A table from place i on, when there are m attributes.
 unfoldable pub tableAt : List ℕ → ℕ → ℕ → ℕ → ℕ → Entry
 tableAt s room m used i =
     onNumber (decode s i)
-    (λ scheme n. cond (badScheme m scheme) (TableFault (refusalAt 5 i)) (countAt s room scheme used n))
-    (λ f. TableFault (refusalAt f i))
+    (λ scheme n. cond (badScheme m scheme) (TableFault (refusalAt 5 i 0)) (countAt s room scheme used n))
+    (λ f c. TableFault (refusalAt f i c))
 
 -- Go on with the table's entry, or with its refusal.
 abbrev pub onEntry : {A : Type 0} → Entry → (ℕ → ℕ → ℕ → ℕ → A) → (Fault → A) → A
@@ -83,7 +84,7 @@ onEntry (TableFault f) go refuse = refuse f
 -- "9: bytes after the last table", at the place "of the surplus".
 unfoldable pub tablesFrom : ℕ → List ℕ → ℕ → ℕ → ℕ → ℕ → ℕ → List ℕ → List ℕ → ℕ → Loaded
 tablesFrom zero s room m n t used schemes rows i =
-    cond (ltb i (length s)) (refused (refusalAt 9 i)) (record { verdict = Good; catalogue = record { m = m; n = n; schemes = schemes; rows = rows } })
+    cond (ltb i (length s)) (refused (refusalAt 9 i 0)) (record { verdict = Good; catalogue = record { m = m; n = n; schemes = schemes; rows = rows } })
 tablesFrom (suc k) s room m n t used schemes rows i =
     onEntry (tableAt s room m used i) (λ x c u e. tablesFrom k s room m n (t + 1) u (set schemes t x) (set rows t c) e) refused
 
@@ -108,8 +109,8 @@ tablesCodes (suc k) s i =
     onNumber (decode s i)
     (λ scheme n. onNumber (decode s n)
     (λ rows e. codes (rows * ones scheme) s e ++ onEnd (runEnd (rows * ones scheme) s e) (λ j. tablesCodes k s j))
-    (λ f. []))
-    (λ f. [])
+    (λ f c. []))
+    (λ f c. [])
 
 -- "Success writes the cells and leaves those behind them"; a refusal "leaves the cells untouched".
 abbrev pub cellsAfter : Verdict → List ℕ → List ℕ → List ℕ
@@ -120,9 +121,9 @@ cellsAfter (Refused f) new old = old
 abbrev pub farthest : ℕ
 farthest = 590000
 
--- A fault lies at a place of at most b, and its number is at most 9.
+-- A fault lies at a place of at most b, and its number is at most 17.
 abbrev pub NearFault : ℕ → Fault → Type 0
-NearFault b f = (f .place ≤ b) × (f .refusal ≤ 9)
+NearFault b f = (f .place ≤ b) × (f .refusal ≤ 17)
 
 -- An image is good, or its fault is near.
 abbrev pub NearVerdict : ℕ → Verdict → Type 0

@@ -25,8 +25,8 @@ fn copy_codes(s: &[u8], at: usize, count: usize, out: &mut [u64]) -> Walk
                 i = e;
                 left = left - 1;
             }
-            Reading::NumberFault(f) => {
-                return Walk::WalkFault(refusal_at(f, i));
+            Reading::NumberFault(f, looked) => {
+                return Walk::WalkFault(refusal_at(f, i, looked));
             }
         }
     }

@@ -7,11 +7,12 @@ mod scanner;
 
 pub use scanner::scan;
 
-// Why an image is refused: the number of the refusal, and its place.
+// Why an image is refused: the number of the refusal, its place, and how many bytes of a number that is at fault by itself were looked at, else 0.
 // Every answer that may be a refusal holds one, so that what a refusal tells is said here alone.
 pub struct Fault {
     pub refusal: usize,
     pub place: usize,
+    pub looked: usize,
 }
 
 // The place that a walk came to, or its fault.

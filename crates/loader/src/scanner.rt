@@ -17,13 +17,14 @@ use super::Walk;
 use numbers::Reading;
 use tables::Catalogue;
 
-// The refusal k at a place.
-pub fn refusal_at(k: usize, p: usize) -> Fault
-    ensures { λ r. ⌜ r ≡ refusalAt k p ⌝ }
+// The refusal k at a place, with the bytes looked at.
+pub fn refusal_at(k: usize, p: usize, looked: usize) -> Fault
+    ensures { λ r. ⌜ r ≡ refusalAt k p looked ⌝ }
 {
     Fault {
         refusal: k,
         place: p,
+        looked,
     }
 }
 
@@ -39,8 +40,8 @@ fn run_end(s: &[u8], at: usize, count: usize) -> Walk
                 i = n;
                 left = left - 1;
             }
-            Reading::NumberFault(k) => {
-                return Walk::WalkFault(refusal_at(k, i));
+            Reading::NumberFault(k, looked) => {
+                return Walk::WalkFault(refusal_at(k, i, looked));
             }
         }
     }
@@ -92,7 +93,7 @@ fn rows_end(s: &[u8], at: usize, rows: usize, width: usize) -> Walk
                     i = n;
                     left = left - 1;
                 } else {
-                    return Walk::WalkFault(refusal_at(7, i));
+                    return Walk::WalkFault(refusal_at(7, i, 0));
                 }
             }
             Walk::WalkFault(f) => {
@@ -123,12 +124,12 @@ fn count_at(s: &[u8], room: usize, scheme: u64, used: usize, at: usize) -> Entry
         Reading::Number(rows, n) => {
             let f = tables::count_fault(room, used, scheme, rows);
             if f != 0 {
-                return Entry::TableFault(refusal_at(f, at));
+                return Entry::TableFault(refusal_at(f, at, 0));
             }
             let cells = used + (rows as usize) * tables::width(scheme);
             rows_entry(s, scheme, rows as u16, cells, n)
         }
-        Reading::NumberFault(k) => Entry::TableFault(refusal_at(k, at)),
+        Reading::NumberFault(k, looked) => Entry::TableFault(refusal_at(k, at, looked)),
     }
 }
 
@@ -141,11 +142,11 @@ fn table_at(s: &[u8], room: usize, m: usize, used: usize, at: usize) -> Entry
     match numbers::read(s, at) {
         Reading::Number(scheme, n) => {
             if tables::scheme_bad(m, scheme) {
-                return Entry::TableFault(refusal_at(5, at));
+                return Entry::TableFault(refusal_at(5, at, 0));
             }
             count_at(s, room, scheme, used, n)
         }
-        Reading::NumberFault(k) => Entry::TableFault(refusal_at(k, at)),
+        Reading::NumberFault(k, looked) => Entry::TableFault(refusal_at(k, at, looked)),
     }
 }
 
@@ -191,7 +192,7 @@ fn scan_tables(s: &[u8], room: usize, m: usize, n: usize, at: usize) -> Loaded
         }
     }
     if i < s.len() {
-        return refuse(refusal_at(9, i));
+        return refuse(refusal_at(9, i, 0));
     }
     Loaded {
         verdict: Verdict::Good,
@@ -211,14 +212,14 @@ fn field_at(s: &[u8], at: usize, low: u64, high: u64, k: usize) -> Field
     match numbers::read(s, at) {
         Reading::Number(x, n) => {
             if x < low {
-                return Field::FieldFault(refusal_at(k, at));
+                return Field::FieldFault(refusal_at(k, at, 0));
             }
             if high < x {
-                return Field::FieldFault(refusal_at(k, at));
+                return Field::FieldFault(refusal_at(k, at, 0));
             }
             Field::Value(x, n)
         }
-        Reading::NumberFault(f) => Field::FieldFault(refusal_at(f, at)),
+        Reading::NumberFault(f, looked) => Field::FieldFault(refusal_at(f, at, looked)),
     }
 }
 

@@ -12,7 +12,7 @@ use lib.Seq.{getD-at, drop-cons}
 use lib.Dec.{ltb, eqb}
 use borrow.Author.Tests.{le-ltb, ne-eqb}
 use Rattle.numbers.specs.declared.Reading.the-variants.{Number}
-use Rattle.numbers.specs.Numbers.{encodeIn, encode, decodeIn, decode}
+use Rattle.numbers.specs.Numbers.{mostBytes, encodeIn, encode, decodeIn, decode}
 use Rattle.numbers.proofs.EncodeLaws.{more-in, last-in}
 use Rattle.numbers.proofs.DecodeLaws.{decode-end, decode-zero, decode-last, decode-more, pos128, no-number}
 
@@ -99,7 +99,7 @@ module _ (f w v : ℕ) (s : List ℕ) (i r n : ℕ) (pos : 0 < w) (e : decodeIn 
         | no y ↦ last-bytes k (λ z. absurd (omega arith))
         | yes y ↦ elim (decLt 0 (getD s i 0)) [
           | yes z ↦ last-bytes k (λ u. z)
-          | no z ↦ no-number (decodeIn (suc f) w v s i) 2 r n (decode-zero (suc f) w v s i (omega arith) l k y (omega arith)) e
+          | no z ↦ no-number (decodeIn (suc f) w v s i) 2 _ r n (decode-zero (suc f) w v s i (omega arith) l k y (omega arith)) e
         ]
       ]
 
@@ -122,10 +122,10 @@ module _ (f w v : ℕ) (s : List ℕ) (i r n : ℕ) (pos : 0 < w) (e : decodeIn 
       }
 
 encode-decode-in : (f w v : ℕ) (s : List ℕ) (i r n : ℕ) → 0 < w → ((k : ℕ) → getD s k 0 < 256) → decodeIn f w v s i ≡ Number r n → Bytes f w v s i r n
-encode-decode-in zero w v s i r n pos by e = no-number (decodeIn zero w v s i) 2 r n refl e
+encode-decode-in zero w v s i r n pos by e = no-number (decodeIn zero w v s i) 17 mostBytes r n refl e
 encode-decode-in (suc f) w v s i r n pos by e =
     elim (decLt i (length s)) [
-      | no l ↦ no-number (decodeIn (suc f) w v s i) 1 r n (decode-end (suc f) w v s i (omega arith) (omega arith)) e
+      | no l ↦ no-number (decodeIn (suc f) w v s i) 1 _ r n (decode-end (suc f) w v s i (omega arith) (omega arith)) e
       | yes l ↦ elim (decLt (getD s i 0) 128) [
         | yes k ↦ last-byte f w v s i r n pos e l k
         | no k ↦

@@ -23,14 +23,15 @@ encodeIn (suc f) x = cond (ltb x 128) (x ∷ []) ((128 + x % 128) ∷ encodeIn f
 unfoldable pub encode : ℕ → List ℕ
 encode x = encodeIn mostBytes x
 
--- What is read from place i on, when f bytes are still allowed, the next group weighs w and the groups before it make v.
--- "2: a number isn't shortest, or its ninth byte has the top bit set"; "1: the image ends inside a number, or where one is due".
+-- What is read from place i on, when f bytes are still allowed, the next group weighs w and the groups before it make v. A refusal tells how many
+-- bytes were looked at: those before this one, or with it. "1: the image ends inside a number, or where one is due"; request #107: "2 now means a last
+-- group of zero after the first byte; 17 means a ninth byte with its top bit set".
 abbrev pub decodeIn : ℕ → ℕ → ℕ → List ℕ → ℕ → Reading
-decodeIn zero w v s i = NumberFault 2
+decodeIn zero w v s i = NumberFault 17 mostBytes
 decodeIn (suc f) w v s i =
-    cond (leb (length s) i) (NumberFault 1)
+    cond (leb (length s) i) (NumberFault 1 (mostBytes - suc f))
     (cond (leb 128 (getD s i 0)) (decodeIn f (w * 128) (v + (getD s i 0 - 128) * w) s (i + 1))
-    (cond (ltb 1 w && eqb (getD s i 0) 0) (NumberFault 2)
+    (cond (ltb 1 w && eqb (getD s i 0) 0) (NumberFault 2 (mostBytes - f))
     (Number (v + getD s i 0 * w) (i + 1))))
 
 -- The number that starts at place i and the place behind it, or the refusal that is met there.

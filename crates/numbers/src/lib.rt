@@ -4,14 +4,14 @@ ghost use Prim.Native.Nat.{_^_, _<_, _≤_};
 ghost use lib.ListN.{length};
 ghost use Rattle.numbers.specs.Numbers.{encode, decode, Wrote};
 
-// A number and the place behind it, or the refusal (1, 2) that is met in reading it.
+// A number and the place behind it, or the refusal (1, 2, 17) that is met in reading it and how many bytes were looked at.
 pub enum Reading {
     Number(u64, usize),
-    NumberFault(usize),
+    NumberFault(usize, usize),
 }
 
 // Reads the number that starts at a place, which may lie behind the slice.
-// It takes the shortest form alone, so that an image has one form only.
+// It takes the shortest form alone, so that an image has one form only. A fault tells an end (1), a padded number (2) and an endless one (17) apart.
 pub fn read(s: &[u8], at: usize) -> Reading
     ensures { λ r. ⌜ r ≡ decode (now (s .entry)) at ⌝ }
 {
@@ -21,12 +21,12 @@ pub fn read(s: &[u8], at: usize) -> Reading
     let mut i = at;
     while 0 < left {
         if s.len() <= i {
-            return Reading::NumberFault(1);
+            return Reading::NumberFault(1, i - at);
         }
         let b = s[i] as u64;
         if b < 128 {
             if 1 < w && b == 0 {
-                return Reading::NumberFault(2);
+                return Reading::NumberFault(2, i + 1 - at);
             }
             return Reading::Number(v + b * w, i + 1);
         }
@@ -35,7 +35,7 @@ pub fn read(s: &[u8], at: usize) -> Reading
         i = i + 1;
         left = left - 1;
     }
-    Reading::NumberFault(2)
+    Reading::NumberFault(17, i - at)
 }
 
 // How many bytes a number takes: one for each seven bits up to its highest set bit. Most numbers are below 128, and 0 has no set bit: one byte.

@@ -1,5 +1,5 @@
 //! Times the library beside the same rule in Rust, as worded and with shortcuts, in one run: ratios, never seconds alone.
-//! Use: peer-bench [repeats]; peer-bench rows for the streams of one row alone; peer-bench once LETTER FORM for one drain of a case by one form (0 the
+//! Use: peer-bench [repeats]; peer-bench rows or lists for the streams of one row or the checks of lists alone; peer-bench once LETTER FORM for one drain of a case by one form (0 the
 //! library, 1 as worded, 2 with shortcuts), whose instructions callgrind counts; peer-bench listings PROGRAM [repeats] for the listing program beside a
 //! plain listing in Rust, which is peer-bench list of the image on standard input; or peer-bench sql for the chain's tables and their nested full outer
 //! joins as SQL.
@@ -384,7 +384,7 @@ fn listings(program: &Path, repeats: usize) {
 /// Does what its words say.
 fn main() {
     let words: Vec<String> = std::env::args().skip(1).collect();
-    let use_ = "use: peer-bench [repeats] | rows | once LETTER FORM | listings PROGRAM [repeats] | list | sql";
+    let use_ = "use: peer-bench [repeats] | rows | lists | once LETTER FORM | listings PROGRAM [repeats] | list | sql";
     match words.iter().map(String::as_str).collect::<Vec<_>>()[..] {
         ["sql"] => print!("{}", sql(&chain())),
         ["list"] => listed(),
@@ -395,6 +395,7 @@ fn main() {
             println!("{:?}", drained(&case, &mut room(), form.parse().expect(use_)));
         }
         ["rows"] => rows(5),
+        ["lists"] => lists(7),
         [] => all(5),
         [repeats] => all(repeats.parse().expect(use_)),
         _ => panic!("{use_}"),

@@ -32,20 +32,31 @@ fn compare_check(image: &[u8]) -> Result<u64, String> {
     Ok(ours)
 }
 
-/// Compares load on one image with so many cells and catalogue words lent.
-/// It gives the peer's answer, catalogue and cells.
-fn compare_load(random: &mut Random, image: &[u8], cells: usize, catalogue: usize) -> Result<(u64, Lent<u64>, Lent<u64>), String> {
+/// What a load gave: the answer, the catalogue, the cells, and the words lent for the count.
+struct Load {
+    answer: u64,
+    catalogue: Lent<u64>,
+    cells: Lent<u64>,
+    looked: Lent<u64>,
+}
+
+/// Compares load on one image with so many cells, catalogue words and words for the count lent.
+/// It gives what the peer's came to.
+fn compare_load(random: &mut Random, image: &[u8], cells: usize, catalogue: usize, counts: usize) -> Result<Load, String> {
     let mut our_cells = Lent::pattern(cells, random);
     let mut our_catalogue = Lent::pattern(catalogue, random);
+    let mut our_looked = Lent::pattern(counts, random);
     let mut their_cells = our_cells.clone();
     let mut their_catalogue = our_catalogue.clone();
-    let ours = words::load(image, our_cells.slice_mut(), our_catalogue.slice_mut());
-    let theirs = library::load(image, their_cells.slice_mut(), their_catalogue.slice_mut());
-    let lent = || format!("{cells} cells, {catalogue} catalogue words: {}", hex(image));
+    let mut their_looked = our_looked.clone();
+    let ours = words::load(image, our_cells.slice_mut(), our_catalogue.slice_mut(), our_looked.slice_mut());
+    let theirs = library::load(image, their_cells.slice_mut(), their_catalogue.slice_mut(), their_looked.slice_mut());
+    let lent = || format!("{cells} cells, {catalogue} catalogue words, {counts} for the count: {}", hex(image));
     hold!(ours == theirs, "load gives {theirs}, the peer {ours}, {}", lent());
     hold!(our_catalogue == their_catalogue, "load leaves another catalogue, {}", lent());
     hold!(our_cells == their_cells, "load leaves other cells, {}", lent());
-    Ok((ours, our_catalogue, our_cells))
+    hold!(our_looked == their_looked, "load leaves another count, {}", lent());
+    Ok(Load { answer: ours, catalogue: our_catalogue, cells: our_cells, looked: our_looked })
 }
 
 /// Compares write on one case, and that what is lent for reading stays.
@@ -74,10 +85,15 @@ fn compare_image(random: &mut Random, tally: &mut Tally) -> Result<(), String> {
     tally.meet("check", checked % 32);
     let lent = make::lent_cells(random, needed);
     let catalogue_words = make::lent_words(random, CATALOGUE);
-    let (loaded, catalogue, cells) = compare_load(random, &image, lent, catalogue_words)?;
-    tally.meet("load", loaded % 32);
-    if loaded == 0 {
-        let back = WriterCase { catalogue: catalogue.slice().to_vec(), cells: cells.slice().to_vec(), out: image.len() };
+    let counts = random.pick(&[0, 1, 1, 1, 1, 1, 1, 2]);
+    let loaded = compare_load(random, &image, lent, catalogue_words, counts)?;
+    tally.meet("load", loaded.answer % 32);
+    if let (Some(count), 1 | 2 | 17) = (loaded.looked.slice().first(), loaded.answer % 32) {
+        tally.note("count", format!("{} with {count}", loaded.answer % 32));
+        tally.note("counts", loaded.answer % 32);
+    }
+    if loaded.answer == 0 {
+        let back = WriterCase { catalogue: loaded.catalogue.slice().to_vec(), cells: loaded.cells.slice().to_vec(), out: image.len() };
         let (length, out) = compare_write(random, &back)?;
         hold!(length == image.len() as u64 * 32 && out.slice() == image, "writing what was loaded gives another image: {}", hex(&image));
     }
@@ -87,7 +103,7 @@ fn compare_image(random: &mut Random, tally: &mut Tally) -> Result<(), String> {
     if written % 32 == 0 {
         let image = &out.slice()[..written as usize / 32];
         let used = words::catalogue_of(&case.catalogue).cells();
-        let (again, catalogue, cells) = compare_load(random, image, used, CATALOGUE)?;
+        let Load { answer: again, catalogue, cells, .. } = compare_load(random, image, used, CATALOGUE, 0)?;
         let n = case.catalogue[1] as usize;
         let same = |from: usize| catalogue.slice()[from..from + n] == case.catalogue[from..from + n];
         let whole = again == 0 && catalogue.slice()[..2] == case.catalogue[..2] && same(2) && same(10);
@@ -101,8 +117,9 @@ fn compare_image(random: &mut Random, tally: &mut Tally) -> Result<(), String> {
 fn image_edge(random: &mut Random, edge: &edges::ImageEdge) -> Result<Lent<u64>, String> {
     let expected = edge.answer.1 * 32 + edge.answer.0;
     let checked = compare_check(&edge.image)?;
-    let (loaded, _, cells) = compare_load(random, &edge.image, 8192, CATALOGUE)?;
-    hold!(checked == expected && loaded == expected, "edge {}: {checked} and {loaded} instead of {expected}", edge.name);
+    let Load { answer, cells, looked, .. } = compare_load(random, &edge.image, 8192, CATALOGUE, 1)?;
+    hold!(checked == expected && answer == expected, "edge {}: {checked} and {answer} instead of {expected}", edge.name);
+    hold!(looked.slice() == [edge.looked], "edge {}: {:?} bytes looked at instead of {}", edge.name, looked.slice(), edge.looked);
     Ok(cells)
 }
 
@@ -147,8 +164,10 @@ fn main() {
         tally.compare(result);
     }
     let least = LEAST.min(images * LEAST / IMAGES);
-    tally.table("check", &["0", "1", "2", "3", "4", "5", "6", "7", "8", "9"], least);
-    tally.table("load", &["0", "1", "2", "3", "4", "5", "6", "7", "8", "9", "31"], least);
+    tally.table("check", &["0", "1", "2", "3", "4", "5", "6", "7", "8", "9", "17"], least);
+    tally.table("load", &["0", "1", "2", "3", "4", "5", "6", "7", "8", "9", "17", "31"], least);
+    tally.table("counts", &["1", "2", "17"], least);
+    tally.table("count", &[], least);
     tally.table("write", &["0", "4", "5", "6", "7", "8", "10", "11", "31"], least);
     tally.calls();
     exit(if tally.end() { 0 } else { 1 });

@@ -4,7 +4,7 @@ use native.Mathlib.Omega.{arith}
 use Prim.Native.Nat.{_-_, _≤_}
 use mathlib.Core.Path.{_≡_, sym}
 use mathlib.Core.Bool.{false}
-use Rattle.hub.specs.Promises.{among}
+use Rattle.hub.specs.Searching.{among}
 use Rattle.hub.proofs.KeyVerdicts.{among-iff}
 use Rattle.hub.proofs.TreeLaws.{among-next}
 use Rattle.hub.proofs.among_from.Statement.{statement}

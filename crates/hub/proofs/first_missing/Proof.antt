@@ -6,7 +6,8 @@ use mathlib.Core.Path.{_≡_, refl, sym, ap, _∙_}
 use lib.ListN.{drop}
 use Rattle.rows.specs.World.{worldOf}
 use Rattle.hub.specs.Verdicts.{seek, triedOn}
-use Rattle.hub.specs.Promises.{wordSets, outOf}
+use Rattle.hub.specs.Promises.{wordSets}
+use Rattle.hub.specs.Searching.{outOf}
 use Rattle.hub.proofs.JudgingLaws.{entry-named, set-maximal, missing-on, missing-out, missing-end}
 use Rattle.hub.proofs.first_missing.Statement.{statement}
 use Rattle.hub.proofs.first_missing.Tie as tie

@@ -14,7 +14,8 @@ use Rattle.rows.specs.World.{worldOf, setOf}
 use Rattle.rows.proofs.WorldLaws.{row-place}
 use Rattle.rows.proofs.NamedLaws.{place-there}
 use Rattle.hub.specs.Verdicts.{seek, tried}
-use Rattle.hub.specs.Promises.{wordSets, outOf}
+use Rattle.hub.specs.Promises.{wordSets}
+use Rattle.hub.specs.Searching.{outOf}
 use Rattle.hub.proofs.JudgingLaws.{row-low, tries-on, tries-out, tries-end}
 use Rattle.hub.proofs.first_out.Statement.{statement}
 use Rattle.hub.proofs.first_out.Tie as tie

@@ -13,7 +13,8 @@ use Rattle.disjunction.specs.Standing.{standing}
 use Rattle.rows.specs.World.{worldOf}
 use Rattle.store.specs.Good.{Key}
 use Rattle.hub.specs.Verdicts.{spoilt}
-use Rattle.hub.specs.Promises.{wordSet, wordSets, Linked, recordsOf}
+use Rattle.hub.specs.Promises.{wordSet, wordSets}
+use Rattle.hub.specs.Searching.{Linked, recordsOf}
 use Rattle.hub.proofs.JudgingLaws.{standing-named, spoilt-lost, spoilt-new}
 use Rattle.hub.proofs.first_spoilt.Statement.{statement}
 use Rattle.hub.proofs.first_spoilt.Tie as tie

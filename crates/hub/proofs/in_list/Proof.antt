@@ -2,7 +2,7 @@
 use borrow.Author.Needs.{needs}
 use native.Mathlib.Omega.{arith}
 use mathlib.Core.Path.{_≡_, sym}
-use Rattle.hub.specs.Promises.{recordsOf}
+use Rattle.hub.specs.Searching.{recordsOf}
 use Rattle.hub.proofs.TreeLaws.{Tells, tree-tells, among-none, among-more}
 use Rattle.hub.proofs.in_list.Statement.{statement}
 use Rattle.hub.proofs.in_list.Tie as tie

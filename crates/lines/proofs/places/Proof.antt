@@ -2,9 +2,9 @@
 -- Assumes nothing.
 use borrow.Author.Needs.{needs}
 use native.Mathlib.Omega.{arith}
-use Prim.Native.Nat.{ℕ, _+_, _-_, _*_, _^_, _≤_, _<_}
-use mathlib.Core.Path.{_≡_, refl, sym, ap, _∙_}
-use lib.ListN.{length, getD}
+use Prim.Native.Nat.{_+_, _^_, _≤_, _<_}
+use mathlib.Core.Path.{_≡_, ap}
+use lib.ListN.{length}
 use Rattle.lines.specs.Decimals.{decimal}
 use Rattle.lines.proofs.DecimalLaws.{decimal-last, decimal-length}
 use Rattle.lines.proofs.places.Statement.{statement}

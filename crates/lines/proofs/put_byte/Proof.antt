@@ -1,7 +1,7 @@
 -- `lines::put_byte` meets its contract: one byte is put, and nothing behind it. Assumes nothing.
 use native.Mathlib.Omega.{arith}
-use Prim.Native.Nat.{ℕ, _+_, _-_, _*_, _^_, _≤_, _<_}
-use mathlib.Core.Path.{_≡_, refl, sym, ap, _∙_}
+use Prim.Native.Nat.{_+_}
+use mathlib.Core.Path.{sym, _∙_}
 use mathlib.Core.List.{[]}
 use lib.ListN.{set}
 use Rattle.laws.proofs.ListLaws.{put-cons, put-nil}

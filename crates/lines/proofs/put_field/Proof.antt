@@ -1,7 +1,5 @@
 -- `lines::put_field` meets its contract: the digits stand behind the space. Assumes nothing.
 use native.Mathlib.Omega.{arith}
-use Prim.Native.Nat.{ℕ, _+_, _-_, _*_, _^_, _≤_, _<_}
-use mathlib.Core.Path.{_≡_, refl, sym, ap, _∙_}
 use Rattle.laws.proofs.PlacedLaws.{placed-append}
 use Rattle.lines.specs.Lines.{field}
 use borrow.Author.Needs.{needs}

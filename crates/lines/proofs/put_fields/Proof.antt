@@ -1,8 +1,8 @@
 -- `lines::put_fields` meets its contract: a run of fields (`Run`). The measure is how many are left. Assumes nothing.
 use borrow.Author.Needs.{needs}
 use native.Mathlib.Omega.{arith}
-use Prim.Native.Nat.{ℕ, _+_, _-_, _*_, _^_, _≤_, _<_}
-use mathlib.Core.Path.{_≡_, refl, sym, ap, _∙_}
+use Prim.Native.Nat.{_-_}
+use mathlib.Core.Path.{refl}
 use lib.ListN.{length}
 use Rattle.lines.specs.Lines.{field}
 use Rattle.lines.proofs.LineLaws.{field-few, Run, run-holds, run-next, run-ends}

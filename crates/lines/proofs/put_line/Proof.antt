@@ -1,7 +1,5 @@
 -- `lines::put_line` meets its contract: three parts, each behind the one before, are one. Assumes nothing.
 use native.Mathlib.Omega.{arith}
-use Prim.Native.Nat.{ℕ, _+_, _-_, _*_, _^_, _≤_, _<_}
-use mathlib.Core.Path.{_≡_, refl, sym, ap, _∙_}
 use Rattle.laws.proofs.PlacedLaws.{placed-three}
 use Rattle.lines.specs.Lines.{field, line}
 use Rattle.lines.proofs.LineLaws.{field-few, each-few}

@@ -2,8 +2,8 @@
 -- Assumes nothing.
 use borrow.Author.Needs.{needs}
 use native.Mathlib.Omega.{arith}
-use Prim.Native.Nat.{ℕ, _+_, _-_, _*_, _^_, _≤_, _<_}
-use mathlib.Core.Path.{_≡_, refl, sym, ap, _∙_}
+use Prim.Native.Nat.{_-_}
+use mathlib.Core.Path.{sym, _∙_}
 use Rattle.laws.proofs.ListLaws.{length-tab, tab-at}
 use Rattle.keys.specs.Keys.{bitsPerRow, rowOf, rowsIn}
 use Rattle.lines.specs.Lines.{field}

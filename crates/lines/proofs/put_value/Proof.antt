@@ -1,7 +1,4 @@
 -- `lines::put_value` meets its contract: null has its dash, and any other code the field of its value. Assumes nothing.
-use native.Mathlib.Omega.{arith}
-use Prim.Native.Nat.{ℕ, _+_, _-_, _*_, _^_, _≤_, _<_}
-use mathlib.Core.Path.{_≡_, refl, sym, ap, _∙_}
 use Rattle.lines.proofs.LineLaws.{value-null, value-some}
 use borrow.Author.Needs.{needs}
 use Rattle.lines.proofs.put_value.Statement.{statement}

@@ -1,8 +1,8 @@
 -- `lines::put_values` meets its contract: a run of values (`Run`) over the front of the padded row. The measure is how many are left. Assumes nothing.
 use borrow.Author.Needs.{needs}
 use native.Mathlib.Omega.{arith}
-use Prim.Native.Nat.{ℕ, _+_, _-_, _*_, _^_, _≤_, _<_}
-use mathlib.Core.Path.{_≡_, refl, sym, ap, _∙_}
+use Prim.Native.Nat.{_-_}
+use mathlib.Core.Path.{sym}
 use lib.ListN.{take}
 use lib.Seq.{length-take-le, getD-take}
 use Rattle.lines.specs.Lines.{value}

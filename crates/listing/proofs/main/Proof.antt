@@ -1,7 +1,6 @@
 -- `listing::main` is safe: no more bytes are listed than came (`read-bytes`). Assumes nothing.
 use native.Mathlib.Omega.{arith}
-use Prim.Native.Nat.{ℕ, _+_, _-_, _*_, _^_, _≤_, _<_}
-use mathlib.Core.Path.{_≡_, refl, sym, ap, _∙_}
+use mathlib.Core.Path.{sym}
 use lib.Seq.{length-take-le}
 use Rattle.listing.proofs.ListingLaws.{read-bytes}
 use borrow.Author.Needs.{needs}

@@ -1,7 +1,4 @@
 -- `listing::lister::open_list` meets its contract: the first line is put, and every set is still to come (`open-gives`). Assumes nothing.
-use native.Mathlib.Omega.{arith}
-use Prim.Native.Nat.{ℕ, _+_, _-_, _*_, _^_, _≤_, _<_}
-use mathlib.Core.Path.{_≡_, refl, sym, ap, _∙_}
 use Rattle.listing.proofs.ListingLaws.{open-gives}
 use borrow.Author.Needs.{needs}
 use Rattle.listing.proofs.lister.open_list.Statement.{statement}

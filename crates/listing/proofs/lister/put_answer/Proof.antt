@@ -1,7 +1,4 @@
 -- `listing::lister::put_answer` meets its contract: each answer has its line. Assumes nothing.
-use native.Mathlib.Omega.{arith}
-use Prim.Native.Nat.{ℕ, _+_, _-_, _*_, _^_, _≤_, _<_}
-use mathlib.Core.Path.{_≡_, refl, sym, ap, _∙_}
 use Rattle.listing.proofs.ListingLaws.{nothing}
 use borrow.Author.Needs.{needs}
 use Rattle.listing.proofs.lister.put_answer.Statement.{statement}

@@ -1,7 +1,6 @@
 -- `listing::lister::turn` meets its contract: a call's line is put, and what follows it is still to come (`turn-gives`). Assumes nothing.
 use native.Mathlib.Omega.{arith}
-use Prim.Native.Nat.{ℕ, _+_, _-_, _*_, _^_, _≤_, _<_}
-use mathlib.Core.Path.{_≡_, refl, sym, ap, _∙_}
+use mathlib.Core.Path.{_∙_}
 use Rattle.listing.proofs.ListingLaws.{said-small, turn-gives}
 use borrow.Author.Needs.{needs}
 use Rattle.listing.proofs.lister.turn.Statement.{statement}

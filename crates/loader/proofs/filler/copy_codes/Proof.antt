@@ -82,8 +82,8 @@ returns c =
     let a = c .before .before .before .before .before .before .before .before .before .args in
     let e = sym (c .before .before .before .before .read .ensures) ∙ c .before .before .f .given .1 in
     record {
-      end = rw (c .refusal-at .ensures) (sym (l .inv .0 ∙ run-bad (l .left) (now (a .s)) (l .i) _ (omega arith) e));
-      cells = sym (l .inv .3 ∙ rw (codes-bad (l .left) (now (a .s)) (l .i) _ e) (put-nil (l .out) (l .n)));
+      end = rw (c .refusal-at .ensures) (sym (l .inv .0 ∙ run-bad (l .left) (now (a .s)) (l .i) _ _ (omega arith) e));
+      cells = sym (l .inv .3 ∙ rw (codes-bad (l .left) (now (a .s)) (l .i) _ _ e) (put-nil (l .out) (l .n)));
     }
 
 same-length-2 : tie.Need-same-length-2 Inv-loop μ-loop

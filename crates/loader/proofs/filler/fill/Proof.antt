@@ -52,7 +52,7 @@ same-length c = search needs
 returns : tie.Need-returns Inv-loop μ-loop
 returns c =
     let l = c .before .before .before .before .loop in
-    no-scheme _ _ (l .left) (l .used) (l .i) (omega arith) (l .inv .0) _ (sym (c .before .before .read .ensures) ∙ c .enum-told .given .1)
+    no-scheme _ _ (l .left) (l .used) (l .i) (omega arith) (l .inv .0) _ _ (sym (c .before .before .read .ensures) ∙ c .enum-told .given .1)
 
 read-requires-2 : tie.Need-read-requires-2 Inv-loop μ-loop
 read-requires-2 c κs = search needs
@@ -69,7 +69,7 @@ same-length-2 c = search needs
 returns-2 : tie.Need-returns-2 Inv-loop μ-loop
 returns-2 c =
     let l = c .before .before .before .before .before .before .before .before .loop in
-    no-count _ _ (l .left) (l .used) (l .i) (omega arith) (l .inv .0) _ _ _ (sym (c .before .before .before .before .before .before .read .ensures) ∙ c .before .before .before .before .scheme .given .1) (sym (c .before .before .read2 .ensures) ∙ c .enum-told2 .given .1)
+    no-count _ _ (l .left) (l .used) (l .i) (omega arith) (l .inv .0) _ _ _ _ (sym (c .before .before .before .before .before .before .read .ensures) ∙ c .before .before .before .before .scheme .given .1) (sym (c .before .before .read2 .ensures) ∙ c .enum-told2 .given .1)
 
 width-requires : tie.Need-width-requires Inv-loop μ-loop
 width-requires c κs = search needs

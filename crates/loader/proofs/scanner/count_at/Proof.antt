@@ -32,7 +32,7 @@ returns : tie.Need-returns
 returns c =
     let r = c .before .before .before .before in
     let f = c .before .before .count-fault .ensures in
-    rw (c .refusal-at .ensures) ((ap (λ (k : ℕ). TableFault (refusalAt k (c .before .before .before .before .before .before .before .before .args .at))) f) ∙ sym (count-fault _ _ _ _ _ _ _ (sym (r .before .before .read .ensures) ∙ r .rows .given .1) (λ e. c .before .if1 .taken (f ∙ e))))
+    rw (c .refusal-at .ensures) ((ap (λ (k : ℕ). TableFault (refusalAt k (c .before .before .before .before .before .before .before .before .args .at) 0)) f) ∙ sym (count-fault _ _ _ _ _ _ _ (sym (r .before .before .read .ensures) ∙ r .rows .given .1) (λ e. c .before .if1 .taken (f ∙ e))))
 
 width-requires : tie.Need-width-requires
 width-requires c κs = search needs
@@ -69,7 +69,7 @@ returns-2 c =
     c .rows-entry .ensures ∙ rw (w .width .ensures) (sym (count-rows _ _ _ _ _ _ _ (sym (r .before .before .read .ensures) ∙ r .rows .given .1) (sym f ∙ w .before .if1 .left)))
 
 returns-3 : tie.Need-returns-3
-returns-3 c = rw (c .refusal-at2 .ensures) (sym (count-bad _ _ _ _ _ _ (sym (c .before .before .before .before .read .ensures) ∙ c .before .before .k .given .1)))
+returns-3 c = rw (c .refusal-at2 .ensures) (sym (count-bad _ _ _ _ _ _ _ (sym (c .before .before .before .before .read .ensures) ∙ c .before .before .k .given .1)))
 
 pub count-at-spec : {M : Type 1} → statement M
 count-at-spec =

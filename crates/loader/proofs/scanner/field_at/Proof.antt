@@ -43,7 +43,7 @@ returns-3 c =
 returns-4 : tie.Need-returns-4
 returns-4 c =
     let a = c .before .before .before .before .before .before .args in
-    rw (c .refusal-at3 .ensures) (sym (field-bad (now (a .s)) (a .at) (a .low) (a .high) (a .k) _ (sym (c .before .before .before .before .read .ensures) ∙ c .before .before .f .given .1)))
+    rw (c .refusal-at3 .ensures) (sym (field-bad (now (a .s)) (a .at) (a .low) (a .high) (a .k) _ _ (sym (c .before .before .before .before .read .ensures) ∙ c .before .before .f .given .1)))
 
 pub field-at-spec : {M : Type 1} → statement M
 field-at-spec =

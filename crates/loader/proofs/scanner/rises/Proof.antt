@@ -49,7 +49,7 @@ returns : tie.Need-returns Inv-loop μ-loop
 returns c =
     let l = c .before .before .before .before .loop in
     let s = now (c .before .before .before .before .before .before .args .s) in
-    sym (l .inv ∙ rw (codes-bad (l .left) s (l .i) _ (sym (c .before .before .read .ensures) ∙ c .enum-told .given .1)) (below-none (codes (l .left) s (l .j))))
+    sym (l .inv ∙ rw (codes-bad (l .left) s (l .i) _ _ (sym (c .before .before .read .ensures) ∙ c .enum-told .given .1)) (below-none (codes (l .left) s (l .j))))
 
 read-requires-2 : tie.Need-read-requires-2 Inv-loop μ-loop
 read-requires-2 c κs = search needs
@@ -64,7 +64,7 @@ returns-2 : tie.Need-returns-2 Inv-loop μ-loop
 returns-2 c =
     let l = c .before .before .before .before .before .before .before .before .loop in
     let s = now (c .before .before .before .before .before .before .before .before .before .before .args .s) in
-    sym (l .inv ∙ rw (codes-bad (l .left) s (l .j) _ (sym (c .before .before .read2 .ensures) ∙ c .enum-told2 .given .1)) (below-bad (codes (l .left) s (l .i))))
+    sym (l .inv ∙ rw (codes-bad (l .left) s (l .j) _ _ (sym (c .before .before .read2 .ensures) ∙ c .enum-told2 .given .1)) (below-bad (codes (l .left) s (l .i))))
 
 returns-3 : tie.Need-returns-3 Inv-loop μ-loop
 returns-3 c =

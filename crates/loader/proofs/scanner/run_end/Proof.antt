@@ -46,7 +46,7 @@ returns : tie.Need-returns Inv-loop μ-loop
 returns c =
     let l = c .before .before .before .before .before .before .loop in
     let s = now (c .before .before .before .before .before .before .before .before .args .s) in
-    rw (c .refusal-at .ensures) (sym (l .inv ∙ run-bad (l .left) s (l .i) _ (omega arith) (sym (c .before .before .before .before .read .ensures) ∙ c .before .before .k .given .1)))
+    rw (c .refusal-at .ensures) (sym (l .inv ∙ run-bad (l .left) s (l .i) _ _ (omega arith) (sym (c .before .before .before .before .read .ensures) ∙ c .before .before .k .given .1)))
 
 returns-2 : tie.Need-returns-2 Inv-loop μ-loop
 returns-2 c =

@@ -38,7 +38,7 @@ returns-2 c =
     c .count-at .ensures ∙ sym (table-count _ _ _ _ _ _ _ (sym (r .before .before .read .ensures) ∙ r .scheme .given .1) (sym (c .before .before .scheme-bad .ensures) ∙ c .before .if1 .left))
 
 returns-3 : tie.Need-returns-3
-returns-3 c = rw (c .refusal-at2 .ensures) (sym (table-bad _ _ _ _ _ _ (sym (c .before .before .before .before .read .ensures) ∙ c .before .before .k .given .1)))
+returns-3 c = rw (c .refusal-at2 .ensures) (sym (table-bad _ _ _ _ _ _ _ (sym (c .before .before .before .before .read .ensures) ∙ c .before .before .k .given .1)))
 
 pub table-at-spec : {M : Type 1} → statement M
 table-at-spec =

@@ -1,0 +1,48 @@
+-- What the functions of this crate promise each other: searches of the listed words, the tree that answers them, the first pass over the entries, and
+-- the number that stands for a set that is not listed. Assumes nothing.
+use Prim.Native.Nat.{ℕ, _+_, _≤_, _<_, min}
+use mathlib.Core.Path.{_≡_}
+use mathlib.Core.Bool.{Bool, false}
+use mathlib.Core.List.{List}
+use lib.ListN.{length, getD}
+use lib.Dec.{eqb}
+use Rattle.laws.specs.Tests.{any}
+use Rattle.keys.specs.Keys.{bitsPerRow, keyOf}
+use Rattle.tables.specs.declared.Catalogue.{Catalogue}
+use Rattle.rows.specs.World.{worldOf}
+use Rattle.store.specs.Store.{storeIn, mostRecords, linkOf}
+use Rattle.store.specs.Good.{GoodStore}
+use Rattle.walks.specs.Firsts.{FirstIn}
+use Rattle.hub.specs.Verdicts.{Verdict, right, entry, missing, spoilt}
+use Rattle.hub.specs.Promises.{wordSets}
+
+-- One of the first k words is this.
+unfoldable pub among : List ℕ → ℕ → ℕ → Bool
+among words k word = any k (λ j. eqb (getD words j 0) word)
+
+-- The key of a set that is not listed; 0, which is no set's, where there is none.
+abbrev pub outOf : Verdict → ℕ
+outOf right = 0
+outOf (entry i) = 0
+outOf (missing T) = keyOf bitsPerRow T
+
+-- The first k words lie in a good search tree: the words are its keys, these are its links, and those of records not used yet are 0.
+pub record Linked (n : ℕ) (words left right : List ℕ) (k : ℕ) : Type 0 where
+  pub long-left : length left ≡ mostRecords
+  pub long-right : length right ≡ mostRecords
+  pub good : 0 < k → GoodStore bitsPerRow n (storeIn words left right k)
+  pub bare : (s : Bool) (p : ℕ) → k ≤ p → linkOf left right s p ≡ 0
+
+-- How many of so many words have a record.
+abbrev pub recordsOf : ℕ → ℕ
+recordsOf k = min k mostRecords
+
+-- What entering word i promises: whether it repeats an earlier one; if not, it is in the tree too.
+pub record Enters (n : ℕ) (words : List ℕ) (i : ℕ) (r : Bool) (left right : List ℕ) : Type 0 where
+  pub repeats : r ≡ among words i (getD words i 0)
+  pub linked : r ≡ false → Linked n words left right (recordsOf (i + 1))
+
+-- What the first pass promises: the first spoilt entry, or that there is none (their number); then all of them are in the tree.
+pub record Spoils (cat : Catalogue) (cells words : List ℕ) (r : ℕ) (left right : List ℕ) : Type 0 where
+  pub first : FirstIn (length words) (spoilt (worldOf cat cells) (wordSets cat words)) r
+  pub linked : r ≡ length words → Linked (cat .n) words left right (recordsOf (length words))
