@@ -1,13 +1,19 @@
-// The lines that the programs print, put into lent bytes from a cursor on. Each function gives the place behind what it put.
-// What lies before and behind it stays, so that a buffer is filled line by line and written as one.
+// The lines that the programs print, put into lent bytes from a cursor on, and the numbers that they are given.
+// Each function that puts gives the place behind what it put; what lies before and behind it stays, so that a buffer is filled line by line and written as one.
 ghost use mathlib.Core.Path.{_≡_};
 ghost use mathlib.Core.List.{_∷_, []};
 ghost use Prim.Native.Nat.{_+_, _*_, _≤_};
 ghost use lib.ListN.{length, take};
 ghost use Rattle.laws.specs.Lists.{Placed};
 ghost use Rattle.keys.specs.Keys.{bitsPerRow, mostTables, rowsIn};
-ghost use Rattle.lines.specs.Decimals.{mostDigits, decimal};
+ghost use Rattle.lines.specs.Decimals.{mostDigits, decimal, goesOn, wordOf};
 ghost use Rattle.lines.specs.Lines.{mostField, setRoom, field, value, fields, values, line, paddedEnd, setLine};
+
+// What a word says: a number in decimal digits, or something else.
+pub enum Word {
+    Number(u64),
+    Other,
+}
 
 // Puts one byte.
 fn put_byte(b: u8, out: &mut [u8], at: usize) -> usize
@@ -154,4 +160,45 @@ pub fn put_set(key: u64, n: usize, padded: &[u64], m: usize, out: &mut [u8], at:
     let behind_word = put_word(b"set", out, at);
     let behind_rows = put_rows(key, n, out, behind_word);
     put_padded(padded, m, out, behind_rows)
+}
+
+// Whether a byte is a digit that goes on with a number behind digits worth v: ten times v and the digit is a number that a word of the machine holds.
+fn goes_on(v: u64, b: u8) -> bool
+    ensures { λ r. ⌜ r ≡ goesOn v b ⌝ }
+{
+    if b < b'0' {
+        return false;
+    }
+    if b'9' < b {
+        return false;
+    }
+    let digit = (b - b'0') as u64;
+    if 1844674407370955161 < v {
+        return false;
+    }
+    if 18446744073709551615 - v * 10 < digit {
+        return false;
+    }
+    true
+}
+
+// Reads a number in decimal digits.
+// No byte at all, another byte than a digit, and a number that is too large say something else.
+pub fn read_decimal(word: &[u8]) -> Word
+    ensures { λ r. ⌜ r ≡ wordOf (now (word .entry)) ⌝ }
+{
+    if word.len() == 0 {
+        return Word::Other;
+    }
+    let mut v: u64 = 0;
+    let mut i: usize = 0;
+    while i < word.len() {
+        let b = word[i];
+        if !goes_on(v, b) {
+            return Word::Other;
+        }
+        v = v * 10 + (b - b'0') as u64;
+        i = i + 1;
+    }
+    Word::Number(v)
 }

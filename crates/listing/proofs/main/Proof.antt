@@ -1,8 +1,9 @@
 -- `listing::main` is safe: no more bytes are listed than came (`read-bytes`). Assumes nothing.
 use native.Mathlib.Omega.{arith}
-use mathlib.Core.Path.{sym}
+use Prim.Native.Nat.{ℕ, _+_, _-_, _*_, _^_, _≤_, _<_}
+use mathlib.Core.Path.{_≡_, refl, sym, ap, _∙_}
 use lib.Seq.{length-take-le}
-use Rattle.listing.proofs.ListingLaws.{read-bytes}
+use Rattle.lister.proofs.ListingLaws.{read-bytes}
 use borrow.Author.Needs.{needs}
 use Rattle.listing.proofs.main.Statement.{statement}
 use Rattle.listing.proofs.main.Tie as tie
