@@ -157,10 +157,10 @@ fn step_with(
         looks: s.looks,
         stream: after,
     };
-    let with = Scope::With(held.table, held.row);
+    let asked = Scope::With(held.table, held.row);
     SteppedFor {
         answer: answer,
-        scope: with,
+        scope: asked,
     }
 }
 

@@ -36,7 +36,7 @@ returns : tie.Need-returns
 returns c =
     let s = c .before .before .before .before .before .before .before .before .before .before .before .before .before .before .before .before .before .before .before .before .before .before .before .before .before in
     let o = c .before .before .before .before .before .before .before .before .before .before .before .before .before .before .before .open-for in
-    refused-gives (s .args .scope) (s .args .cat) (s .args .cells .now) _ _ _ (o .result) (c .ended .result) (rw (s .pre .2, s .pre .3, s .pre .4) at (o .ensures)) (c .before .before .before .before .before .if1 .taken) (s .pre .5) (c .ended .ensures .0) (c .ended .ensures .1) (c .before .before .before .put-refusal .ensures)
+    refused-gives (s .args .scope) (s .args .cat) (s .args .cells .now) _ _ _ (o .result) (c .ended .result) (rw (s .pre .2, s .pre .3, s .pre .4) at (o .ensures)) (omega (arith, c .before .before .before .before .before .if1 .taken)) (s .pre .5) (c .ended .ensures .0) (c .ended .ensures .1) (c .before .before .before .put-refusal .ensures)
 
 put-tables-requires : tie.Need-put-tables-requires
 put-tables-requires c κs = search needs
