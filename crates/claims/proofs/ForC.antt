@@ -29,11 +29,17 @@ use Rattle.machine.proofs.RefusalLaws.{call-refused}
 use Rattle.stream.specs.Promises.{stateOf, holdingStateOf}
 use Rattle.abi.specs.Words.{catalogueWords, wordsOf, catalogueIn}
 use Rattle.abi.specs.Calls.{tooFewWords, short, LoadCall, writtenNumber, WriteCall}
+use Rattle.abi.specs.Lists.{verdictNumber, verdictWord, verdictWords, listShort, ListCall}
+use Rattle.hub.specs.declared.ListVerdict.{ListVerdict}
+use Rattle.hub.specs.declared.ListVerdict.the-variants as Hub
+use Rattle.hub.specs.Promises.{checked}
 use Rattle.abi.specs.Streams.{recordWords, holdingWords, resultWords, wordsOfState, recordIn, holdingIn, resultOfCall, answerNumber, openedNumber, openShort, nextShort, Opening, Calling}
-use Rattle.claims.specs.CallsForC.{Reads, OpenTold, CallTold, FewToOpen, FewToCall, AbiExact}
+use Rattle.claims.specs.CallsForC.{Reads, ReadsList, OpenTold, CallTold, FewToOpen, FewToCall, AbiExact}
 use Rattle.claims.proofs.ScanLaws.{lt-iff, or-iff, iff-no}
 use Rattle.claims.proofs.LoadExactly.{load-exact, some-refusal}
 use Rattle.claims.proofs.WriteExactly.{write-exact}
+use Rattle.claims.proofs.CatalogueExactly.{catalogue-exact}
+use Rattle.claims.proofs.ListChecked.{list-exact}
 use Rattle.claims.proofs.CallExactly.{call-exact, open-exact}
 use Rattle.claims.proofs.Exact.{demand1}
 use Rattle.claims.proofs.Refused.{scan-zeros}
@@ -278,6 +284,54 @@ module _ (w : ℕ) (a : Asked) (catalogue cells keys left right words : List ℕ
 
 -- ---- all of them
 
+-- ---- the hub's list
+
+list-short-iff : (catalogue result : List ℕ) → (listShort catalogue result ≡ true) ↔ ((length catalogue < catalogueWords) ⊎ (length result < verdictWords))
+unfolding listShort
+list-short-iff catalogue result =
+    or-iff (short catalogue) (ltb (length result) verdictWords) (lt-iff (length catalogue) catalogueWords) (lt-iff (length result) verdictWords)
+
+module _ (catalogue cells listed result : List ℕ) (r : ℕ) (result′ : List ℕ) (c : ListCall catalogue cells listed result r result′) where
+  abbrev told : ListVerdict
+  told = checked (catalogueIn catalogue) cells listed
+
+  list-low : (k : ℕ) → told ≡ Hub.Refused k → k < tooFewWords
+  list-low k e = by (catalogue-exact (catalogueIn catalogue) (length cells) .no-other k (list-exact (catalogueIn catalogue) cells listed told refl .refusal k .0 e .1))
+    where
+      by : (k ≡ 0) ⊎ (k ≡ 4) ⊎ (k ≡ 5) ⊎ (k ≡ 6) ⊎ (k ≡ 8) → k < tooFewWords
+      by (inl z) = omega arith
+      by (inr (inl z)) = omega arith
+      by (inr (inr (inl z))) = omega arith
+      by (inr (inr (inr (inl z)))) = omega arith
+      by (inr (inr (inr (inr z)))) = omega arith
+
+  list-apart : verdictNumber told ≡ tooFewWords → ⊥
+  list-apart = by told refl
+    where
+      by : (v : ListVerdict) → told ≡ v → verdictNumber v ≡ tooFewWords → ⊥
+      by Hub.Right d e = absurd (omega arith)
+      by (Hub.Entry i) d e = absurd (omega arith)
+      by (Hub.Missing k) d e = absurd (omega arith)
+      by (Hub.Refused k) d e = absurd (omega (arith, list-low k d))
+
+  list-few : (r ≡ tooFewWords) ↔ ((length catalogue < catalogueWords) ⊎ (length result < verdictWords))
+  list-few = only-few (listShort catalogue result) (verdictNumber told) r (list-short-iff catalogue result) list-apart (c .answer)
+
+  list-told : ((length catalogue < catalogueWords) ⊎ (length result < verdictWords) → ⊥) → ReadsList r told × (result′ ≡ put (verdictWord told ∷ []) result)
+  list-told h = (reads told refl answered, behind (listShort catalogue result) result (put (verdictWord told ∷ []) result) result′ enough-words (c .result-after))
+    where
+      enough-words : listShort catalogue result ≡ false
+      enough-words = iff-no (listShort catalogue result) (list-short-iff catalogue result) .1 h
+
+      answered : r ≡ verdictNumber told
+      answered = behind (listShort catalogue result) tooFewWords (verdictNumber told) r enough-words (c .answer)
+
+      reads : (v : ListVerdict) → told ≡ v → r ≡ verdictNumber v → ReadsList r v
+      reads Hub.Right d e = (omega arith, omega arith)
+      reads (Hub.Entry i) d e = (omega arith, omega arith)
+      reads (Hub.Missing k) d e = (omega arith, omega arith)
+      reads (Hub.Refused k) d e = (omega (arith, list-low k d), omega (arith, list-low k d))
+
 pub abi-exact : AbiExact
 abi-exact =
     record {
@@ -307,6 +361,8 @@ abi-exact =
           next-told holdingWords (everyWith (record { table = getD words 3 0; row = getD words 4 0 })) catalogue cells keys left right words b
           (getD words 0 0) (getD words 1 0) (getD words 2 0) row result r ks ls rs ws w′ res c n
           (put-five words (enough holdingWords catalogue words result n));
+      list-few = list-few;
+      list-told = list-told;
     }
   where
     enough : (w : ℕ) (catalogue words result : List ℕ) → (FewToCall w catalogue words result → ⊥) → w ≤ length words

@@ -16,6 +16,10 @@ use Rattle.machine.specs.Machine.{State, Says, aSet, finished, working, refused
 use Rattle.stream.specs.Promises.{stateOf, holdingStateOf}
 use Rattle.abi.specs.Words.{catalogueWords, wordsOf, catalogueIn}
 use Rattle.abi.specs.Calls.{tooFewWords, LoadCall, WriteCall}
+use Rattle.abi.specs.Lists.{verdictWord, verdictWords, ListCall}
+use Rattle.hub.specs.declared.ListVerdict.{ListVerdict}
+use Rattle.hub.specs.declared.ListVerdict.the-variants as Hub
+use Rattle.hub.specs.Promises.{checked}
 use Rattle.abi.specs.Streams.{recordWords, holdingWords, resultWords, wordsOfState, recordIn, holdingIn, OpenCall, NextCall, OpenHoldingCall, NextHoldingCall}
 
 -- ---- what is told, and what is left
@@ -39,6 +43,13 @@ pub record CallTold (fault : ℕ) (s : Called) (keys left right words row result
   pub reads : Reads r (s .says)
   pub leaves : (fault ≡ 0 → ⊥)
       → (keys′ ≡ keys) × (left′ ≡ left) × (right′ ≡ right) × (words′ ≡ words) × (row′ ≡ row) × (result′ ≡ put (0 ∷ 0 ∷ 0 ∷ 0 ∷ []) result)
+
+-- The answer of a list's check, read off its number: 1 for right, 2 for an entry, 3 for a missing set, over no refusal; or a refusal alone.
+abbrev pub ReadsList : ℕ → ListVerdict → Type 0
+ReadsList r Hub.Right = (r % 32 ≡ 0) × (r / 32 ≡ 1)
+ReadsList r (Hub.Entry i) = (r % 32 ≡ 0) × (r / 32 ≡ 2)
+ReadsList r (Hub.Missing k) = (r % 32 ≡ 0) × (r / 32 ≡ 3)
+ReadsList r (Hub.Refused k) = (r % 32 ≡ k) × (r / 32 ≡ 0)
 
 -- ---- the calls
 
@@ -90,3 +101,9 @@ pub record AbiExact : Type 0 where
       → NextHoldingCall catalogue cells keys left right words b row result r ks ls rs ws w′ res → (FewToCall holdingWords catalogue words result → ⊥)
       → CallTold (callFault (catalogueIn catalogue) (length cells) (holdingStateOf (holdingIn words) keys left right) row)
       (call (catalogueIn catalogue) cells b (holdingStateOf (holdingIn words) keys left right) row) keys left right words row result r ks ls rs ws w′ res
+  pub list-few : (catalogue cells listed result : List ℕ) (r : ℕ) (result′ : List ℕ) → ListCall catalogue cells listed result r result′
+      → (r ≡ tooFewWords) ↔ ((length catalogue < catalogueWords) ⊎ (length result < verdictWords))
+  -- The answer is read off, and the one word of the result has what it names.
+  pub list-told : (catalogue cells listed result : List ℕ) (r : ℕ) (result′ : List ℕ) → ListCall catalogue cells listed result r result′
+      → ((length catalogue < catalogueWords) ⊎ (length result < verdictWords) → ⊥)
+      → ReadsList r (checked (catalogueIn catalogue) cells listed) × (result′ ≡ put (verdictWord (checked (catalogueIn catalogue) cells listed) ∷ []) result)
