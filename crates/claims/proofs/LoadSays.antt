@@ -90,7 +90,7 @@ module _ (s : List ℕ) (room : ℕ) where
   unfolding tablesFrom tablesSay
   tables-say zero m n t u xs cs i = by (ltb i (length s))
     where
-      by : (b : Bool) → cond b (refused (refusalAt 9 i 0)) (record { verdict = Good; catalogue = record { m = m; n = n; schemes = xs; rows = cs } }) .verdict
+      by : (b : Bool) → cond b (refused (refusalAt 9 i 0)) (record { verdict = Good; catalogue = filled (given m n xs cs) }) .verdict
           ≡ cond b (Refused (refusalAt 9 i 0)) Good
       by true = refl
       by false = refl

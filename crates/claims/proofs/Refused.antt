@@ -40,7 +40,7 @@ tables-zero : (k : ℕ) (s : List ℕ) (room m n t used : ℕ) (xs cs : List ℕ
 unfolding tablesFrom
 tables-zero zero s room m n t used xs cs i = by (ltb i (length s))
   where
-    by : (b : Bool) → Zeroes (cond b (refused (refusalAt 9 i 0)) (record { verdict = Good; catalogue = record { m = m; n = n; schemes = xs; rows = cs } }))
+    by : (b : Bool) → Zeroes (cond b (refused (refusalAt 9 i 0)) (record { verdict = Good; catalogue = filled (given m n xs cs) }))
     by true = refl
     by false = refl
 tables-zero (suc k) s room m n t used xs cs i =

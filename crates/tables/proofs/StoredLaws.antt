@@ -16,8 +16,9 @@ use Rattle.laws.specs.Lists.{tab}
 use Rattle.laws.proofs.ListLaws.{tab-at, length-tab}
 use Rattle.tables.specs.declared.Catalogue.{Catalogue}
 use Rattle.tables.specs.Sizes.{mostTables}
-use Rattle.tables.specs.Catalogues.{schemeOf, firstCell, touch, touchingBelow, touchingOf, forTables, filled, noTables}
+use Rattle.tables.specs.Catalogues.{schemeOf, firstCell, touch, touchingBelow, touchingOf, forTables, filled, given, noTables}
 use Rattle.tables.specs.Checks.{shapeFault, tablesFault, Lawful, madeIf}
+use Rattle.tables.proofs.CatalogueLaws.{cells-next}
 use Rattle.tables.proofs.CheckLaws.{Shaped}
 
 -- ---- a list with a place for each table
@@ -140,6 +141,21 @@ module _ (cat : Catalogue) where
         places = λ t l. for-at (cat .n) (firstCell cat) t l (S .sizes .n-high) ∙ sym (filled-first t);
         touching = λ t l. for-at (cat .n) (touchingOf cat) t l (S .sizes .n-high) ∙ sym (filled-touching t (cat .n));
       }
+
+-- ---- one table more is said
+
+module _ (m n : ℕ) (xs cs : List ℕ) (t x c : ℕ) where
+  given-before : (u : ℕ) → u ≤ t → firstCell (given m n (set xs t x) (set cs t c)) u ≡ firstCell (given m n xs cs) u
+  unfolding firstCell
+  given-before zero l = refl
+  given-before (suc u) l =
+      rw (given-before u (omega arith), getD-set-other xs t u x 0 (λ e. omega (arith, e, l)), getD-set-other cs t u c 0 (λ e. omega (arith, e, l)))
+
+  -- Its cells lie behind those of the tables before it.
+  pub given-next : t < length xs → t < length cs → firstCell (given m n (set xs t x) (set cs t c)) (t + 1) ≡ firstCell (given m n xs cs) t + c * ones x
+  given-next h k =
+      cells-next (given m n (set xs t x) (set cs t c)) t
+      ∙ rw (given-before t (omega arith), getD-set-same xs t x 0 h, getD-set-same cs t c 0 k)
 
 -- ---- tables made by hand
 
