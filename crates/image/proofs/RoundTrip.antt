@@ -11,17 +11,17 @@ use Rattle.laws.specs.Lists.{put}
 use Rattle.laws.proofs.ListLaws.{length-put}
 use Rattle.numbers.specs.Numbers.{encode}
 use Rattle.tables.specs.declared.Catalogue.{Catalogue}
-use Rattle.tables.specs.Sizes.{mostAttributes, mostTables, version}
+use Rattle.tables.specs.Sizes.{mostTables, version}
 use Rattle.tables.specs.Catalogues.{firstCell}
-use Rattle.tables.specs.Checks.{firstOf, sizeFault, catalogueFault, Lawful}
-use Rattle.tables.proofs.CheckLaws.{first-none, first-clear, inside, size-good, lawful-fault}
+use Rattle.tables.specs.Checks.{firstOf, catalogueFault, Lawful}
+use Rattle.tables.proofs.CheckLaws.{first-none, first-clear, lawful-fault}
 use Rattle.loader.specs.declared.Verdict.{Verdict}
 use Rattle.loader.specs.declared.Verdict.the-variants.{Good}
 use Rattle.loader.specs.declared.Loaded.{Loaded}
 use Rattle.writer.specs.declared.Written.{Written}
 use Rattle.writer.specs.declared.Written.the-variants.{Length}
 use Rattle.loader.specs.Load.{firstTable, scanOf, tablesCodes, cellsAfter, Loads}
-use Rattle.writer.specs.Write.{tablesImage, imageOf, tablesRefusal, writeFault, Accepted, lengthFault, writtenOf, written, Writes}
+use Rattle.writer.specs.Write.{tablesImage, imageOf, cellsFault, writeFault, Accepted, lengthFault, writtenOf, written, Writes}
 use Rattle.image.specs.RoundTrip.{trimmed, found, loadedCells}
 use Rattle.writer.proofs.AcceptLaws.{fault-accepted, accepted-fault}
 use Rattle.image.proofs.ThereLaws.{scan-there, codes-there}
@@ -64,34 +64,31 @@ module _ (s lent : List ℕ) (cat : Catalogue) (by : (k : ℕ) → getD s k 0 < 
       let f = tables-fit s by (length lent) cat (cat .n) 0 firstTable (cat .n) (omega arith) (omega arith) (read .tables) in
       length-put (tablesCodes (cat .n) s firstTable) lent (omega (arith, f .0, f .1))
 
-  tables-again : (drop firstTable s ≡ tablesImage (cat .n) cat (loadedCells cat s lent) 0) × (tablesRefusal (cat .n) cat (loadedCells cat s lent) 0 ≡ 0)
+  tables-again : (drop firstTable s ≡ tablesImage (cat .n) cat (loadedCells cat s lent) 0) × (cellsFault (cat .n) cat (loadedCells cat s lent) 0 ≡ 0)
   unfolding firstCell
   tables-again =
       let codes = tablesCodes (cat .n) s firstTable in
-      tables-back s by (length lent) cat (loadedCells cat s lent) (drop (length codes) lent) (cat .n) 0 firstTable load-length (read .tables) refl
+      tables-back s by (length lent) cat (loadedCells cat s lent) (drop (length codes) lent) (cat .n) 0 firstTable (read .tables) refl
 
-  size-again : sizeFault (cat .m) (cat .n) ≡ 0
-  size-again =
-      let R = read .range in
-      size-good (cat .m) (cat .n) (inside 1 mostAttributes (cat .m) (R .m-low) (R .m-high)) (inside 1 mostTables (cat .n) (R .n-low) (R .n-high))
+  -- The tables are lawful and without fault.
+  pub load-lawful : Lawful cat (length lent)
+  load-lawful = read .lawful
+
+  pub load-clear : catalogueFault cat (length lent) ≡ 0
+  load-clear = lawful-fault cat (length lent) load-lawful
 
   -- The writer refuses them for no reason but room, and makes the same bytes of them.
   pub write-loaded : (writeFault cat (loadedCells cat s lent) ≡ 0) × (imageOf cat (loadedCells cat s lent) ≡ s)
   unfolding writeFault imageOf
   write-loaded = (
-    first-none (sizeFault (cat .m) (cat .n)) (tablesRefusal (cat .n) cat (loadedCells cat s lent) 0) size-again ∙ tables-again .1,
+    first-none (catalogueFault cat (length (loadedCells cat s lent))) (cellsFault (cat .n) cat (loadedCells cat s lent) 0) (rw load-length load-clear)
+        ∙ tables-again .1,
     ap (λ (l : List ℕ). encode version ++ (encode (cat .m) ++ (encode (cat .n) ++ l))) (sym (tables-again .0)) ∙ sym (read .bytes),
   )
 
-  -- So they are accepted, lawful and without fault.
+  -- So they are accepted.
   pub load-accepted : Accepted cat (loadedCells cat s lent)
   load-accepted = fault-accepted cat (loadedCells cat s lent) (write-loaded .0)
-
-  pub load-lawful : Lawful cat (length lent)
-  load-lawful = rw load-length at (load-accepted .lawful)
-
-  pub load-clear : catalogueFault cat (length lent) ≡ 0
-  load-clear = lawful-fault cat (length lent) load-lawful
 
   -- "eight schemes and eight row counts. Entries from n on .. are 0 after a load."
   pub load-trimmed : (length (cat .schemes) ≡ mostTables) × (length (cat .rows) ≡ mostTables) × (trimmed cat ≡ cat)

@@ -228,7 +228,7 @@ module _ (cat : Catalogue) (cells : List ℕ) (A : Accepted cat cells) (room : �
   table-clear : (t : ℕ) → t < cat .n → Clear (cat .m) room (firstCell cat t) (schemeOf cat t) (countOf cat t)
   table-clear t h =
       let L = A .lawful in
-      let ends = table-ends cat (length cells) L t h in
+      let ends = table-ends cat t h in
       record { some = L .some-scheme t h; low = L .scheme t h; few = L .rows t h; most = omega (arith, L .cells); room = omega arith }
 
   module _ (s : List ℕ) where
@@ -240,7 +240,7 @@ module _ (cat : Catalogue) (cells : List ℕ) (A : Accepted cat cells) (room : �
     cells-read t q r h e =
         let c = countOf cat t in
         let w = ones (schemeOf cat t) in
-        let held : firstCell cat t + c * w ≤ length cells = omega (arith, table-ends cat (length cells) (A .lawful) t h, A .lawful .room) in
+        let held : firstCell cat t + c * w ≤ length cells = omega (arith, table-ends cat t h, A .lawful .room) in
         let run = part-reads s (firstCell cat t) (c * w) cells r q held (rows-low c w cells true 0 (firstCell cat t) (A .rows t h)) e in
         (rows-read s c w cells true 0 (firstCell cat t) 0 q r held (A .rows t h) (λ ys. refl) e, run .0, run .1)
 

@@ -3,7 +3,7 @@ use Prim.Native.Nat.{ℕ, zero, suc, _+_, _*_, _^_, _≤_, _<_}
 use native.Mathlib.Decide.{decLt, ℕ-discrete}
 use native.Mathlib.Omega.{arith}
 use native.Mathlib.Numerals.{add-one}
-use mathlib.Core.Path.{_≡_, refl, sym, _∙_}
+use mathlib.Core.Path.{_≡_, refl, sym, ap, _∙_}
 use mathlib.Core.Bool.{Bool, true, false, cond}
 use mathlib.Core.List.{List}
 use lib.ListN.{length, getD, set, replicate, length-set, getD-replicate}
@@ -19,7 +19,7 @@ use Rattle.tables.specs.Sizes.{mostTables}
 use Rattle.tables.specs.Catalogues.{schemeOf, firstCell, touch, touchingBelow, touchingOf, forTables, filled, given, noTables}
 use Rattle.tables.specs.Checks.{shapeFault, tablesFault, Lawful, madeIf}
 use Rattle.tables.proofs.CatalogueLaws.{cells-next}
-use Rattle.tables.proofs.CheckLaws.{Shaped}
+use Rattle.tables.proofs.CheckLaws.{Shaped, shape-clear}
 
 -- ---- a list with a place for each table
 
@@ -141,6 +141,11 @@ module _ (cat : Catalogue) where
         places = λ t l. for-at (cat .n) (firstCell cat) t l (S .sizes .n-high) ∙ sym (filled-first t);
         touching = λ t l. for-at (cat .n) (touchingOf cat) t l (S .sizes .n-high) ∙ sym (filled-touching t (cat .n));
       }
+
+-- Tables that were filled, and meet none of 4, 5, 6 and 8, are lawful.
+pub stored-lawful : (cat given : Catalogue) (lent : ℕ) → cat ≡ filled given → shapeFault cat lent ≡ 0 → Lawful cat lent
+stored-lawful cat given lent e h =
+    rw e (filled-lawful given lent (shape-clear given lent (sym (filled-shape given lent) ∙ sym (ap (λ (d : Catalogue). shapeFault d lent) e) ∙ h)))
 
 -- ---- one table more is said
 
