@@ -20,7 +20,8 @@ use Rattle.loader.specs.declared.Verdict.the-variants.{Good, Refused}
 use Rattle.loader.specs.declared.Loaded.{Loaded}
 use Rattle.writer.specs.declared.Written.{Written}
 use Rattle.writer.specs.declared.Written.the-variants as Written
-use Rattle.loader.specs.Load.{firstTable, noCatalogue, farthest, NearVerdict, scanOf, tablesCodes, cellsAfter, Loads}
+use Rattle.tables.specs.Catalogues.{noTables}
+use Rattle.loader.specs.Load.{firstTable, farthest, NearVerdict, scanOf, tablesCodes, cellsAfter, Loads}
 use Rattle.writer.specs.Write.{imageOf, written, bytesAfter}
 use Rattle.loader.proofs.PlaceLaws.{scan-near}
 use Rattle.verdicts.specs.Number.{doorNumber, lookedIn}
@@ -34,11 +35,12 @@ use Rattle.hub.specs.declared.ListVerdict.{ListVerdict}
 use Rattle.hub.specs.declared.ListVerdict.the-variants as Hub
 use Rattle.hub.specs.Promises.{checked}
 use Rattle.abi.specs.Streams.{recordWords, holdingWords, resultWords, wordsOfState, recordIn, holdingIn, resultOfCall, answerNumber, openedNumber, openShort, nextShort, Opening, Calling}
+use Rattle.claims.specs.CatalogueRefusals.{OfCatalogue}
 use Rattle.claims.specs.CallsForC.{Reads, ReadsList, OpenTold, CallTold, FewToOpen, FewToCall, AbiExact}
 use Rattle.claims.proofs.ScanLaws.{lt-iff, or-iff, iff-no}
 use Rattle.claims.proofs.LoadExactly.{load-exact, some-refusal}
 use Rattle.claims.proofs.WriteExactly.{write-exact}
-use Rattle.claims.proofs.CatalogueExactly.{catalogue-exact}
+use Rattle.claims.proofs.CatalogueExactly.{catalogue-exact, of-catalogue-low}
 use Rattle.claims.proofs.ListChecked.{list-exact}
 use Rattle.claims.proofs.CallExactly.{call-exact, open-exact}
 use Rattle.claims.proofs.Exact.{demand1}
@@ -104,7 +106,7 @@ module _ (image cells words looked : List ℕ) (r : ℕ) (cells′ words′ look
     load-answer = behind (short words) tooFewWords (doorNumber (scanOf image (length cells) .verdict)) r long (c .answer)
 
     load-refused : (f : Fault) → scanOf image (length cells) .verdict ≡ Refused f
-        → (r % 32 ≡ f .refusal) × (r / 32 ≡ f .place) × (cells′ ≡ cells) × (words′ ≡ put (wordsOf noCatalogue) words) × (looked′ ≡ set looked 0 (f .looked))
+        → (r % 32 ≡ f .refusal) × (r / 32 ≡ f .place) × (cells′ ≡ cells) × (words′ ≡ put (wordsOf noTables) words) × (looked′ ≡ set looked 0 (f .looked))
     load-refused f e =
         let n : NearVerdict farthest (Refused f) = subst (NearVerdict farthest) e (near image (length cells)) in
         let a : r ≡ f .place * 32 + f .refusal = load-answer ∙ ap doorNumber e in (
@@ -126,14 +128,11 @@ module _ (words cells out : List ℕ) (r : ℕ) (out′ : List ℕ) (c : WriteCa
   write-low : (k : ℕ) → says ≡ Written.Refused k → k < tooFewWords
   write-low k e = by (write-exact (catalogueIn words) cells (length out) .no-other k e)
     where
-      by : (k ≡ 4) ⊎ (k ≡ 5) ⊎ (k ≡ 6) ⊎ (k ≡ 8) ⊎ (k ≡ 10) ⊎ (k ≡ 7) ⊎ (k ≡ 11) → k < tooFewWords
-      by (inl e) = omega arith
+      by : OfCatalogue k ⊎ (k ≡ 10) ⊎ (k ≡ 7) ⊎ (k ≡ 11) → k < tooFewWords
+      by (inl x) = omega (arith, of-catalogue-low k x)
       by (inr (inl e)) = omega arith
       by (inr (inr (inl e))) = omega arith
-      by (inr (inr (inr (inl e)))) = omega arith
-      by (inr (inr (inr (inr (inl e))))) = omega arith
-      by (inr (inr (inr (inr (inr (inl e)))))) = omega arith
-      by (inr (inr (inr (inr (inr (inr e)))))) = omega arith
+      by (inr (inr (inr e))) = omega arith
 
   write-apart : writtenNumber says ≡ tooFewWords → ⊥
   write-apart = by says refl
@@ -233,11 +232,8 @@ module _ (w : ℕ) (a : Asked) (catalogue cells keys left right words : List ℕ
   call-low : (k : ℕ) → s .says ≡ refused k → k < tooFewWords
   call-low k e = by (call-exact (catalogueIn catalogue) cells b q row .no-other k e)
     where
-      by : ((k ≡ 4) ⊎ (k ≡ 5) ⊎ (k ≡ 6) ⊎ (k ≡ 8)) ⊎ (k ≡ 13) ⊎ (k ≡ 11) ⊎ (k ≡ 12) ⊎ (k ≡ 14) → k < tooFewWords
-      by (inl (inl e)) = omega arith
-      by (inl (inr (inl e))) = omega arith
-      by (inl (inr (inr (inl e)))) = omega arith
-      by (inl (inr (inr (inr e)))) = omega arith
+      by : OfCatalogue k ⊎ (k ≡ 13) ⊎ (k ≡ 11) ⊎ (k ≡ 12) ⊎ (k ≡ 14) → k < tooFewWords
+      by (inl x) = omega (arith, of-catalogue-low k x)
       by (inr (inl e)) = omega arith
       by (inr (inr (inl e))) = omega arith
       by (inr (inr (inr (inl e)))) = omega arith
@@ -298,12 +294,9 @@ module _ (catalogue cells listed result : List ℕ) (r : ℕ) (result′ : List 
   list-low : (k : ℕ) → told ≡ Hub.Refused k → k < tooFewWords
   list-low k e = by (catalogue-exact (catalogueIn catalogue) (length cells) .no-other k (list-exact (catalogueIn catalogue) cells listed told refl .refusal k .0 e .1))
     where
-      by : (k ≡ 0) ⊎ (k ≡ 4) ⊎ (k ≡ 5) ⊎ (k ≡ 6) ⊎ (k ≡ 8) → k < tooFewWords
+      by : (k ≡ 0) ⊎ OfCatalogue k → k < tooFewWords
       by (inl z) = omega arith
-      by (inr (inl z)) = omega arith
-      by (inr (inr (inl z))) = omega arith
-      by (inr (inr (inr (inl z)))) = omega arith
-      by (inr (inr (inr (inr z)))) = omega arith
+      by (inr x) = omega (arith, of-catalogue-low k x)
 
   list-apart : verdictNumber told ≡ tooFewWords → ⊥
   list-apart = by told refl

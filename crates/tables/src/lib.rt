@@ -11,14 +11,14 @@ ghost use Rattle.tables.specs.Checks.{sizeFault, badScheme, countFault, 
 
 // "One record with m, n, and eight schemes and eight row counts", and "eight first-cell places and eight masks of touching tables": bit u of table t's
 // mask says that t and u touch. Entries from n on are ignored.
-// A place is at most 8,192 and a mask has a bit a table, so they are stored in as many bytes: a catalogue is handed down by value.
+// A place is at most 8,192 and a mask has a bit a table, so two bytes hold either: a catalogue is handed down by value.
 pub struct Catalogue {
     pub m: usize,
     pub n: usize,
     pub schemes: [u64; 8],
     pub rows: [u16; 8],
     pub places: [u16; 8],
-    pub touching: [u8; 8],
+    pub touching: [u16; 8],
 }
 
 // What a caller who made tables by hand gets: their refusal (0 for none), and the catalogue, of zeros where they are refused.
@@ -149,7 +149,7 @@ fn shape_fault(cat: Catalogue, lent: usize) -> usize
 
 // The bit of table u in table t's mask: 0 where they do not touch.
 // A table never touches itself.
-fn touch_bit(cat: Catalogue, t: usize, u: usize) -> u8
+fn touch_bit(cat: Catalogue, t: usize, u: usize) -> u16
     requires { ⌜ (t < mostTables) × (u < mostTables) ⌝ }
     ensures { λ r. ⌜ r ≡ cond (touch cat t u) (2 ^ u) 0 ⌝ }
 {
@@ -165,12 +165,12 @@ fn touch_bit(cat: Catalogue, t: usize, u: usize) -> u8
 
 // The mask of the tables that touch table t.
 // It is worked out where a catalogue is made and where a stored one is checked; everything else reads the stored one.
-fn touching_of(cat: Catalogue, t: usize) -> u8
+fn touching_of(cat: Catalogue, t: usize) -> u16
     requires { ⌜ (t < cat .n) × (cat .n ≤ mostTables) ⌝ }
     ensures { λ r. ⌜ r ≡ touchingOf cat t ⌝ }
 {
     let n = cat.n;
-    let mut mask: u8 = 0;
+    let mut mask: u16 = 0;
     let mut u: usize = 0;
     while u < n {
         mask = mask + touch_bit(cat, t, u);
@@ -220,7 +220,7 @@ pub fn filled(cat: Catalogue) -> Catalogue
 {
     let n = cat.n;
     let mut places: [u16; 8] = [0; 8];
-    let mut touching: [u8; 8] = [0; 8];
+    let mut touching: [u16; 8] = [0; 8];
     let mut at: usize = 0;
     let mut t: usize = 0;
     while t < n {

@@ -142,7 +142,7 @@ find-in-requires c κs =
     let b = s .pre .1 .begins _ (turn a) in (
       eight a,
       s .pre .1 .wide _ (turn a),
-      rw b (omega (arith, table-ends (s .args .t1) _ (s .pre .0) _ (turn a), s .pre .0 .room)),
+      rw b (omega (arith, table-ends (s .args .t1) _ (turn a), s .pre .0 .room)),
       λ h. rw b (s .pre .1 .rising _ (turn a) h),
     )
 

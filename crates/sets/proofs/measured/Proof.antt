@@ -82,7 +82,7 @@ ends c =
     let e = rows-few (s .args .t1) _ (s .pre) (l .loop .t + 1) (omega (arith, b)) in (
       b,
       omega (arith, b, s .pre .tables),
-      rw (c .before .width .ensures) (omega (arith, l .loop .inv .1, table-ends (s .args .t1) _ (s .pre) (l .loop .t) b, s .pre .cells)),
+      rw (c .before .width .ensures) (omega (arith, l .loop .inv .1, table-ends (s .args .t1) (l .loop .t) b, s .pre .cells)),
       omega (arith, l .loop .inv .2, rows-next (s .args .t1) (l .loop .t), e),
       rw (c .before .width .ensures) (ones-le 64 _ (scheme-narrow (s .args .t1) _ (s .pre) (l .loop .t) b)),
     )

@@ -55,7 +55,7 @@ rises-requires c κs =
     let n = scheme-narrow (s .args .t1) _ (s .pre .0) _ b in
     rw (s .pre .1 .wide _ b, s .pre .1 .begins _ b) (
       ones-le mergedLength _ n,
-      omega (arith, table-ends (s .args .t1) _ (s .pre .0) _ b, s .pre .0 .room, some-cell (schemeOf (s .args .t1) (o .before .loop .t)) (s .pre .0 .some-scheme _ b) n),
+      omega (arith, table-ends (s .args .t1) _ b, s .pre .0 .room, some-cell (schemeOf (s .args .t1) (o .before .loop .t)) (s .pre .0 .some-scheme _ b) n),
     )
 
 shl-rising : tie.Need-shl-rising Inv-loop μ-loop

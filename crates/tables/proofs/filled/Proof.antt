@@ -46,6 +46,9 @@ array-write-places c = search needs
 touching-of-requires : tie.Need-touching-of-requires Inv-loop μ-loop
 touching-of-requires c κs = search needs
 
+mul-touching : tie.Need-mul-touching Inv-loop μ-loop
+mul-touching c = search needs
+
 array-write-touching : tie.Need-array-write-touching Inv-loop μ-loop
 array-write-touching c = search needs
 
@@ -121,6 +124,7 @@ filled-spec =
     mul-places
     array-write-places
     touching-of-requires
+    mul-touching
     array-write-touching
     mul-at
     element-copy-out-at

@@ -55,6 +55,9 @@ returns c =
     let l = i .before .loop in
     sym (stored-bad _ (l .t) (i .loop-test .taken) (place-wrong _ _ (λ e. c .if1 .taken (e ∙ sym (l .inv .1)))))
 
+mul-if2 : tie.Need-mul-if2 Inv-loop μ-loop
+mul-if2 c = search needs
+
 element-copy-out-if2 : tie.Need-element-copy-out-if2 Inv-loop μ-loop
 element-copy-out-if2 c = search needs
 
@@ -130,6 +133,7 @@ stored-fault-spec =
     element-copy-out-if1
     cast-if1
     returns
+    mul-if2
     element-copy-out-if2
     touching-of-requires
     returns-2

@@ -38,7 +38,7 @@ shl-result c = search needs
 returns-3 : tie.Need-returns-3
 returns-3 c =
     let s = c .before .before .before .before in
-    let b : 1 * 2 ^ (s .args .u) % 2 ^ 8 ≡ 2 ^ (s .args .u) = mod-eq-of-lt (omega (arith, pow-lt (s .pre .1))) ∙ omega arith in
+    let b : 1 * 2 ^ (s .args .u) % 2 ^ 16 ≡ 2 ^ (s .args .u) = mod-eq-of-lt (omega (arith, pow-lt (s .pre .1))) ∙ omega arith in
     rw (touch-both (s .args .t1) (s .args .t) (s .args .u) (c .before .before .before .if1 .left) (c .if2 .left)) b
 
 pub touch-bit-spec : {M : Type 1} → statement M
