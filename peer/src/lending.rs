@@ -4,6 +4,7 @@ use crate::library;
 use crate::make::Tables;
 use crate::random::Random;
 use crate::rule::{self, Answer, Asked, Outcome, Record, Store, Stop};
+use crate::stored;
 use crate::tally::Tally;
 use crate::words::{self, Call, CATALOGUE, HOLDING, RECORD, RESULT};
 
@@ -44,6 +45,30 @@ impl Lending {
             padded: Lent::pattern(padded, random),
             result: Lent::pattern(result, random),
         }
+    }
+
+    /// Opens on these slices by the peer.
+    /// It gives the answer.
+    fn open(&mut self) -> u64 {
+        let mut store = Store { keys: self.keys.slice_mut(), left: self.left.slice_mut(), right: self.right.slice_mut() };
+        words::open(self.asked, self.catalogue.slice(), self.cells.slice(), &mut store, self.record.slice_mut())
+    }
+
+    /// Makes one stream call on these slices by the peer.
+    /// It gives the answer and the outcome.
+    fn next(&mut self, budget: u64) -> (u64, Option<Outcome>) {
+        let needed = self.record_words();
+        let mut store = Store { keys: self.keys.slice_mut(), left: self.left.slice_mut(), right: self.right.slice_mut() };
+        let call = Call { record: self.record.slice_mut(), budget, padded: self.padded.slice_mut(), result: self.result.slice_mut() };
+        words::next(needed, self.catalogue.slice(), self.cells.slice(), &mut store, call)
+    }
+
+    /// The same slices with other words for the catalogue.
+    /// They are as many.
+    fn with_catalogue(&self, words: &[u64]) -> Lending {
+        let mut other = self.clone();
+        other.catalogue.slice_mut().copy_from_slice(words);
+        other
     }
 
     /// How many records the store has.
@@ -158,9 +183,7 @@ impl Pair {
     /// It gives the answer.
     pub fn open(&mut self, tally: &mut Tally) -> Result<u64, String> {
         let before = self.ours.clone();
-        let lent = &mut self.ours;
-        let mut store = Store { keys: lent.keys.slice_mut(), left: lent.left.slice_mut(), right: lent.right.slice_mut() };
-        let ours = words::open(lent.asked, lent.catalogue.slice(), lent.cells.slice(), &mut store, lent.record.slice_mut());
+        let ours = self.ours.open();
         let lent = &mut self.theirs;
         let mut store = Store { keys: lent.keys.slice_mut(), left: lent.left.slice_mut(), right: lent.right.slice_mut() };
         let (catalogue, cells, record) = (lent.catalogue.slice(), lent.cells.slice(), lent.record.slice_mut());
@@ -169,6 +192,7 @@ impl Pair {
             Asked::Holding { table, row } => ("open_holding", library::open_holding(catalogue, cells, &mut store, table, row, record)),
         };
         tally.meet(call, opened_name(ours, &before));
+        stored::note(tally, call, ours % 32, before.catalogue.slice(), |words| before.with_catalogue(words).open());
         self.same(call, ours, theirs, &before)?;
         Ok(ours)
     }
@@ -177,10 +201,7 @@ impl Pair {
     /// It gives the answer.
     pub fn next(&mut self, budget: u64, tally: &mut Tally) -> Result<u64, String> {
         let before = self.ours.clone();
-        let lent = &mut self.ours;
-        let mut store = Store { keys: lent.keys.slice_mut(), left: lent.left.slice_mut(), right: lent.right.slice_mut() };
-        let call = Call { record: lent.record.slice_mut(), budget, padded: lent.padded.slice_mut(), result: lent.result.slice_mut() };
-        let (ours, outcome) = words::next(record_words(lent.asked), lent.catalogue.slice(), lent.cells.slice(), &mut store, call);
+        let (ours, outcome) = self.ours.next(budget);
         let lent = &mut self.theirs;
         let mut store = Store { keys: lent.keys.slice_mut(), left: lent.left.slice_mut(), right: lent.right.slice_mut() };
         let call = Call { record: lent.record.slice_mut(), budget, padded: lent.padded.slice_mut(), result: lent.result.slice_mut() };
@@ -190,6 +211,7 @@ impl Pair {
         };
         let count = |place: usize| self.ours.result.slice().get(place).copied().unwrap_or(0);
         tally.meet(name, name_of(outcome, &before, count(1), count(3)));
+        stored::note(tally, name, ours % 32, before.catalogue.slice(), |words| before.with_catalogue(words).next(budget).0);
         self.same(&format!("{name} with budget {budget}"), ours, theirs, &before)?;
         Ok(ours)
     }

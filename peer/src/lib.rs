@@ -30,6 +30,7 @@ pub mod random;
 pub mod refusal;
 pub mod rule;
 pub mod selfcheck;
+pub mod stored;
 #[cfg(feature = "stream")]
 pub mod streams;
 #[cfg(feature = "stream")]

@@ -14,6 +14,7 @@ extern "C" {
         image: *const u8, image_length: usize, cells: *mut u64, cells_length: usize, catalogue: *mut u64, catalogue_length: usize,
         looked: *mut u64, looked_length: usize,
     ) -> u64;
+    fn harbour_make_catalogue(given: *const u64, given_length: usize, catalogue: *mut u64, catalogue_length: usize) -> u64;
     fn harbour_write(catalogue: *const u64, catalogue_length: usize, cells: *const u64, cells_length: usize, out: *mut u8, out_length: usize) -> u64;
 }
 
@@ -74,6 +75,12 @@ pub fn load(image: &[u8], cells: &mut [u64], catalogue: &mut [u64], looked: &mut
             looked.as_mut_ptr(), looked.len(),
         )
     }
+}
+
+/// The library's making of a catalogue.
+/// See `words::make_catalogue`.
+pub fn make_catalogue(given: &[u64], catalogue: &mut [u64]) -> u64 {
+    unsafe { harbour_make_catalogue(given.as_ptr(), given.len(), catalogue.as_mut_ptr(), catalogue.len()) }
 }
 
 /// The library's write.
@@ -199,6 +206,13 @@ mod mock {
         looked: *mut u64, looked_length: usize,
     ) -> u64 {
         words::load(lent(image, image_length), lent_mut(cells, cells_length), lent_mut(catalogue, catalogue_length), lent_mut(looked, looked_length))
+    }
+
+    /// The mock of the making of a catalogue.
+    /// See `words::make_catalogue`.
+    #[no_mangle]
+    unsafe extern "C" fn harbour_make_catalogue(given: *const u64, given_length: usize, catalogue: *mut u64, catalogue_length: usize) -> u64 {
+        words::make_catalogue(lent(given, given_length), lent_mut(catalogue, catalogue_length))
     }
 
     /// The mock of write.

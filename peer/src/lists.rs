@@ -6,6 +6,7 @@ use crate::lent::Lent;
 use crate::make::{self, Tables as Made};
 use crate::random::Random;
 use crate::rule::{self, Answer, Outcome, Store, Tables};
+use crate::stored;
 use crate::tally::Tally;
 use crate::words::{self, CATALOGUE, SHORT_SLICE};
 use crate::library;
@@ -126,6 +127,7 @@ fn compare_one(random: &mut Random, tally: &mut Tally, case: (&[u64], &[u64], &[
     hold!(ours == theirs, "check_list names {:?}, the peer {:?}: {}", theirs.slice(), ours.slice(), words());
     hold!(lent == before, "check_list changes what it reads: {}", words());
     tally.meet("list", our_answer);
+    stored::note(tally, "list", our_answer % 32, catalogue, |words| check_list(words, cells, listed, maximal, &mut [0]));
     Ok(())
 }
 
@@ -138,6 +140,12 @@ fn compare_tables(random: &mut Random, tally: &mut Tally, tables: &Made, maximal
         changed(random, &mut list, tables);
         let mut catalogue = words::words_of(&tables.catalogue).to_vec();
         let (mut cells, mut room) = (tables.cells.clone(), NAMED + random.below(3) as usize);
+        if random.percent(20) {
+            stored::scatter_behind(random, &mut catalogue);
+        }
+        if random.percent(20) {
+            stored::spoil(random, &mut catalogue);
+        }
         match random.below(12) {
             0 => {
                 let refusal = random.pick(&[4, 5, 6]);
@@ -194,14 +202,14 @@ pub fn compare(cases: u64, seed: u64, least: u64) -> bool {
             _ => make::stream_tables(&mut random, 600),
         };
         if random.percent(2) {
-            tables.catalogue.rows = [0; 8];
-            tables.cells.clear();
+            tables = tables.without_rows();
         }
         let maximal = if large { drained(&tables.catalogue, &tables.cells) } else { Relations::of(&tables).maximal().into_iter().collect() };
         let result = compare_tables(&mut random, &mut tally, &tables, &maximal);
         tally.compare(result.map_err(|words| format!("case {case}: {words}")));
     }
-    tally.table("list", &["32", "64", "96", "4", "5", "6", "8", "31"], least);
+    tally.table("list", &["32", "64", "96", "4", "5", "6", "8", "16", "31"], least);
+    stored::tables_of(&mut tally, "list", &[], least);
     tally.calls();
     tally.end()
 }

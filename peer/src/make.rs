@@ -2,7 +2,8 @@
 use crate::image::{self, Catalogue};
 use crate::numbers;
 use crate::random::Random;
-use crate::words::{words_of, CATALOGUE};
+use crate::stored;
+use crate::words::{words_of, CATALOGUE, GIVEN, ROWS, SCHEMES};
 use std::collections::BTreeSet;
 
 /// A catalogue with its cells.
@@ -11,6 +12,20 @@ use std::collections::BTreeSet;
 pub struct Tables {
     pub catalogue: Catalogue,
     pub cells: Vec<u64>,
+}
+
+impl Tables {
+    /// Tables whose catalogue has its places and masks filled.
+    /// Whatever they were is forgotten.
+    pub fn of(catalogue: Catalogue, cells: Vec<u64>) -> Tables {
+        Tables { catalogue: catalogue.filled(), cells }
+    }
+
+    /// The same tables without their rows.
+    /// No cells are left either.
+    pub fn without_rows(&self) -> Tables {
+        Tables::of(Catalogue { rows: [0; 8], ..self.catalogue }, Vec::new())
+    }
 }
 
 /// Which codes a table's cells take.
@@ -83,7 +98,7 @@ fn tables(random: &mut Random, m: usize, shapes: &[(usize, usize)]) -> Tables {
             cells.extend(row);
         }
     }
-    Tables { catalogue, cells }
+    Tables::of(catalogue, cells)
 }
 
 /// Shapes of one to eight tables whose cells sum up to a total, or come as near as they can.
@@ -361,8 +376,8 @@ fn some_table(random: &mut Random, words: &[u64]) -> usize {
     random.below(words[1].clamp(1, 8)) as usize
 }
 
-/// Spoils a catalogue in words so that 4, 5 or 6 is met, or leaves it.
-/// Stream calls and the writer share this.
+/// Spoils a catalogue in words so that 4, 5, 6 or 16 is met, or leaves it.
+/// All calls that take a catalogue share this. With 16 what is stored is wrong for the words as they then are.
 pub fn spoil(random: &mut Random, words: &mut [u64], refusal: u64) {
     let table = some_table(random, words);
     match refusal {
@@ -370,11 +385,36 @@ pub fn spoil(random: &mut Random, words: &mut [u64], refusal: u64) {
         4 => words[1] = random.pick(&[0, 9, 10, 264, 1 << 32, 1 << 63, u64::MAX]),
         5 => {
             let above = 1u64 << words[0].min(63);
-            words[2 + table] = random.pick(&[0, above, words[2 + table] | above, 1 << 63, u64::MAX]);
+            words[SCHEMES + table] = random.pick(&[0, above, words[SCHEMES + table] | above, 1 << 63, u64::MAX]);
         }
-        6 => words[10 + table] = random.pick(&[256, 257, 511, 512, 65_535, 65_536, 65_537, 1 << 32, 1 << 63, u64::MAX]),
+        16 => stored::spoil(random, words),
+        6 => words[ROWS + table] = random.pick(&[256, 257, 511, 512, 65_535, 65_536, 65_537, 1 << 32, 1 << 63, u64::MAX]),
         _ => {}
     }
+}
+
+/// What is said of tables made by hand, in words: good, with one fault, or with several at once.
+/// Entries from n on hold anything half of the time. Fewer words are lent now and then, or more.
+pub fn given_case(random: &mut Random, tables: &Tables) -> Vec<u64> {
+    let mut words = words_of(&tables.catalogue).to_vec();
+    if random.percent(50) {
+        stored::scatter_behind(random, &mut words);
+    }
+    for _ in 0..random.pick(&[0, 0, 0, 0, 1, 1, 1, 2]) {
+        let fault = random.pick(&[4, 5, 6, 8, 8]);
+        if fault == 8 {
+            let table = some_table(random, &words);
+            words[0] = random.range(33, 63) as u64;
+            words[SCHEMES + table] = (1 << words[0]) - 1;
+            words[ROWS + table] = random.pick(&[8191 / words[0], 8192 / words[0], 8192 / words[0] + 1, 255]);
+        } else {
+            spoil(random, &mut words, fault);
+        }
+    }
+    words.truncate(GIVEN);
+    let length = lent_words(random, GIVEN);
+    words.resize_with(length, || random.word());
+    words
 }
 
 /// A case for the writer: good, with one fault, or with several at once.
@@ -382,7 +422,7 @@ pub fn spoil(random: &mut Random, words: &mut [u64], refusal: u64) {
 pub fn writer_case(random: &mut Random, mut tables: Tables) -> WriterCase {
     let mut faults = Vec::new();
     for _ in 0..random.pick(&[0, 0, 0, 1, 1, 1, 1, 2, 3]) {
-        faults.push(random.pick(&[4, 5, 6, 7, 8, 10, 11]));
+        faults.push(random.pick(&[4, 5, 6, 7, 7, 8, 10, 10, 11, 16, 16]));
     }
     if faults.contains(&7) {
         disorder(random, &mut tables);
@@ -390,12 +430,8 @@ pub fn writer_case(random: &mut Random, mut tables: Tables) -> WriterCase {
     let length = good(&tables).len();
     let needed = tables.cells.len();
     let mut words = words_of(&tables.catalogue).to_vec();
-    let n = tables.catalogue.n as usize;
     if random.percent(50) {
-        for table in n..8 {
-            words[2 + table] = random.word() >> random.below(64);
-            words[10 + table] = random.word() >> random.below(64);
-        }
+        stored::scatter_behind(random, &mut words);
     }
     for &fault in &faults {
         spoil(random, &mut words, fault);
@@ -474,7 +510,7 @@ pub fn stream_tables(random: &mut Random, most: usize) -> Tables {
         choices *= rows.len() + 1;
         cells.extend(rows.into_iter().flatten());
     }
-    Tables { catalogue, cells }
+    Tables::of(catalogue, cells)
 }
 
 /// A star of tables whose rows all join: the number of sets is the product of the row counts.
@@ -489,5 +525,5 @@ pub fn star(counts: &[u16]) -> Tables {
             cells.extend([2, row]);
         }
     }
-    Tables { catalogue, cells }
+    Tables::of(catalogue, cells)
 }

@@ -18,6 +18,7 @@ pub enum Refusal {
     Full = 12,
     Record = 13,
     Damaged = 14,
+    Stored = 16,
     Endless = 17,
     NoRow = 19,
 }

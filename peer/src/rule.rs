@@ -40,7 +40,7 @@ pub struct Tables<'a> {
 }
 
 impl<'a> Tables<'a> {
-    /// Checks the catalogue as open does and works out where each table begins.
+    /// Checks the catalogue as open does and works out where each table begins; the places and masks that are stored are only checked.
     /// `order` lists all rows in row order: table by table, then by row number.
     pub fn checked(catalogue: &Catalogue, cells: &'a [u64]) -> Result<Tables<'a>, Refusal> {
         check_catalogue(catalogue, cells.len())?;

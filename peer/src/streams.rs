@@ -6,18 +6,19 @@ use crate::make::{self, Tables};
 use crate::random::Random;
 use crate::refusal::Refusal;
 use crate::rule::Asked;
+use crate::stored;
 use crate::tally::Tally;
 use crate::words::{self, CATALOGUE, HOLDING, RECORD, RESULT};
 
 /// The answers that a run has to meet, call by call.
 /// A key that is tried on is tested at a call's first trial, so that way to 14 never comes after trials.
-const OPEN: [&str; 8] = ["0", "0 without rows", "4", "5", "6", "8", "12", "31"];
-const NEXT: [&str; 21] = [
-    "set", "set after trials", "finished", "finished after trials", "working", "working after trials", "4", "5", "6", "8", "11", "12",
+const OPEN: [&str; 9] = ["0", "0 without rows", "4", "5", "6", "8", "12", "16", "31"];
+const NEXT: [&str; 22] = [
+    "set", "set after trials", "finished", "finished after trials", "working", "working after trials", "4", "5", "6", "8", "11", "12", "16",
     "12 after trials", "14 key handed out", "14 key handed out after trials", "14 key tried on", "14 link", "14 link after trials", "14 looks",
     "14 looks after trials", "31",
 ];
-const OPEN_HOLDING: [&str; 11] = ["0", "4", "5", "6", "8", "12", "19 no table", "19 row 0", "19 row passes count", "19 before 12", "31"];
+const OPEN_HOLDING: [&str; 12] = ["0", "4", "5", "6", "8", "12", "16", "19 no table", "19 row 0", "19 row passes count", "19 before 12", "31"];
 const UNSEARCHED: [&str; 4] = [
     "set after trials without a look", "finished after trials without a look", "working after trials without a look", "12 after trials without a look",
 ];
@@ -42,10 +43,7 @@ fn some_tables(random: &mut Random) -> Tables {
     let most = random.pick(&[100, 400, 400, 3000]);
     let mut tables = make::stream_tables(random, most);
     match random.below(40) {
-        0 | 1 => {
-            tables.catalogue.rows = [0; 8];
-            tables.cells.clear();
-        }
+        0 | 1 => tables = tables.without_rows(),
         2 => {
             let other = make::any_tables(random);
             if other.cells.len() < 600 {
@@ -184,9 +182,10 @@ fn damage(random: &mut Random, lending: &mut Lending) {
         let values = lent.slice()[..length.min(lent.length())].to_vec();
         Lent::holding(&values, random)
     };
-    match random.below(18) {
+    match random.below(20) {
         0..=4 => damage_store(random, lending),
         16 | 17 => chain_store(random, lending),
+        18 | 19 => stored::spoil(random, lending.catalogue.slice_mut()),
         5..=7 => damage_record(random, lending),
         8 => {
             let refusal = random.pick(&[4, 5, 6]);
@@ -211,14 +210,11 @@ fn damage(random: &mut Random, lending: &mut Lending) {
             let table = random.below(8) as usize;
             let count = &mut lending.catalogue.slice_mut()[10 + table];
             *count = if random.percent(80) { count.saturating_sub(1) } else { count.saturating_add(1) };
-        }
-        13 => {
-            let n = lending.catalogue.slice()[1].min(8) as usize;
-            for table in n..8 {
-                lending.catalogue.slice_mut()[2 + table] = random.word();
-                lending.catalogue.slice_mut()[10 + table] = random.word();
+            if random.percent(90) {
+                stored::fill(lending.catalogue.slice_mut());
             }
         }
+        13 => stored::scatter_behind(random, lending.catalogue.slice_mut()),
         14 if lending.cells.length() > 0 => {
             let place = random.range(0, lending.cells.length() - 1);
             lending.cells.slice_mut()[place] = random.pick(&[0, 2, 3]);
@@ -270,7 +266,7 @@ fn damaged_calls(random: &mut Random, pair: &mut Pair, tally: &mut Tally) -> Res
     match random.below(8) {
         0 => pair.change(|lending| damage(random, lending)),
         1 => {
-            let refusal = random.pick(&[4, 5, 6]);
+            let refusal = random.pick(&[4, 5, 6, 16, 16, 16, 16]);
             pair.change(|lending| make::spoil(random, lending.catalogue.slice_mut(), refusal));
         }
         _ => {}
@@ -448,6 +444,10 @@ pub fn compare(cases: u64, seed: u64, least: u64) -> bool {
     tally.table("open_holding", &OPEN_HOLDING, least);
     tally.table("next_holding", &next, least);
     tally.table("covers", &COVERS, least);
+    let later: [(&str, &[&str]); 4] = [("open", &["12"]), ("next", &["11", "12", "13", "14"]), ("open_holding", &["12", "19"]), ("next_holding", &["11", "12", "13", "14"])];
+    for (call, later) in later {
+        stored::tables_of(&mut tally, call, later, least);
+    }
     tally.calls();
     tally.end()
 }

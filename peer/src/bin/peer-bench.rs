@@ -106,17 +106,18 @@ fn by_rust(tables: &Tables, room: &mut Room, budget: u64, open: Open, next: Next
 /// Tables of these schemes and row counts, with the code of each cell by table, row and attribute.
 /// Rows are put in order and repeats dropped, so that they make an image too.
 fn tables(m: u64, shapes: &[(u64, u16)], mut code: impl FnMut(usize, u64, u32) -> u64) -> Tables {
-    let mut made = Tables { catalogue: Catalogue { m, n: shapes.len() as u64, ..Catalogue::default() }, cells: Vec::new() };
+    let mut catalogue = Catalogue { m, n: shapes.len() as u64, ..Catalogue::default() };
+    let mut cells = Vec::new();
     for (table, &(scheme, count)) in shapes.iter().enumerate() {
         let attributes: Vec<u32> = (0..m as u32).filter(|attribute| scheme >> attribute & 1 == 1).collect();
         let mut rows: Vec<Vec<u64>> = (1..=u64::from(count)).map(|row| attributes.iter().map(|&a| code(table, row, a)).collect()).collect();
         rows.sort();
         rows.dedup();
-        made.catalogue.schemes[table] = scheme;
-        made.catalogue.rows[table] = rows.len() as u16;
-        made.cells.extend(rows.into_iter().flatten());
+        catalogue.schemes[table] = scheme;
+        catalogue.rows[table] = rows.len() as u16;
+        cells.extend(rows.into_iter().flatten());
     }
-    made
+    Tables::of(catalogue, cells)
 }
 
 /// A chain of eight tables: each shares an attribute with the next. Some rows find no other.
