@@ -1,5 +1,5 @@
 //! The edges that the rules name, each with the answer written down by hand.
-use crate::words::CATALOGUE;
+use crate::words::{CATALOGUE, GIVEN, MASKS, PLACES, ROWS, SCHEMES};
 
 /// An image edge: the image and the answer to it, with 8,192 cells lent.
 /// The answer is the refusal and the place; (0, 0) is good. `looked` is the count that a load gives with it.
@@ -19,6 +19,14 @@ pub struct WriterEdge {
     pub out: usize,
     pub answer: (u64, u64),
     pub bytes: Vec<u8>,
+}
+
+/// An edge of the making of a catalogue: what is given, the answer, and the eight places and eight masks of a success.
+pub struct MadeEdge {
+    pub name: &'static str,
+    pub given: [u64; GIVEN],
+    pub answer: u64,
+    pub stored: [u64; CATALOGUE - GIVEN],
 }
 
 /// Bytes from their written form: two hexadecimal digits each, blanks between them.
@@ -122,18 +130,61 @@ pub fn images() -> Vec<ImageEdge> {
     edges
 }
 
-/// A catalogue in words with one or two tables.
+/// A catalogue in words with some tables, each as its scheme, row count, place and mask.
 /// The entries from n on hold numbers that would be refused.
-fn catalogue(m: u64, n: u64, entries: &[(u64, u64)]) -> [u64; CATALOGUE] {
+fn catalogue(m: u64, n: u64, entries: &[(u64, u64, u64, u64)]) -> [u64; CATALOGUE] {
     let mut words = [0; CATALOGUE];
     words[0] = m;
     words[1] = n;
     for table in 0..8 {
-        let (scheme, rows) = entries.get(table).copied().unwrap_or((0, 65_536));
-        words[2 + table] = scheme;
-        words[10 + table] = rows;
+        let (scheme, rows, place, mask) = entries.get(table).copied().unwrap_or((0, 65_536, 9, 255));
+        words[SCHEMES + table] = scheme;
+        words[ROWS + table] = rows;
+        words[PLACES + table] = place;
+        words[MASKS + table] = mask;
     }
     words
+}
+
+/// What is given of tables, each as its scheme and row count, and the places and masks that are made of it.
+/// The entries from n on hold numbers that would be refused, and get zeros.
+fn made_of(name: &'static str, m: u64, n: u64, entries: &[(u64, u64)], answer: u64, stored: &[(u64, u64)]) -> MadeEdge {
+    let mut edge = MadeEdge { name, given: [0; GIVEN], answer, stored: [0; CATALOGUE - GIVEN] };
+    edge.given[..2].copy_from_slice(&[m, n]);
+    for table in 0..8 {
+        let (scheme, rows) = entries.get(table).copied().unwrap_or((1 << 63, 65_535));
+        (edge.given[SCHEMES + table], edge.given[ROWS + table]) = (scheme, rows);
+        (edge.stored[table], edge.stored[8 + table]) = stored.get(table).copied().unwrap_or((0, 0));
+    }
+    edge
+}
+
+/// The edges of the making of a catalogue.
+/// A refusal gives 34 zeros.
+pub fn made() -> Vec<MadeEdge> {
+    let all = (1 << 63) - 1;
+    vec![
+        made_of("the sample", 3, 3, &[(3, 2), (6, 2), (5, 2)], 0, &[(0, 6), (4, 5), (8, 3)]),
+        made_of("one table", 1, 1, &[(1, 255)], 0, &[(0, 0)]),
+        made_of("one attribute in eight tables", 1, 8, &[(1, 1); 8], 0,
+            &[(0, 0xfe), (1, 0xfd), (2, 0xfb), (3, 0xf7), (4, 0xef), (5, 0xdf), (6, 0xbf), (7, 0x7f)]),
+        made_of("nothing shared", 3, 3, &[(1, 2), (2, 0), (4, 3)], 0, &[(0, 0), (2, 0), (2, 0)]),
+        made_of("a table without rows has a place", 2, 3, &[(3, 0), (2, 0), (1, 9)], 0, &[(0, 6), (0, 1), (0, 1)]),
+        made_of("a chain", 4, 3, &[(3, 1), (6, 1), (12, 1)], 0, &[(0, 2), (2, 5), (4, 2)]),
+        made_of("attribute 62", 63, 2, &[(1 << 62, 1), (all, 1)], 0, &[(0, 2), (1, 1)]),
+        made_of("8,192 cells, then no rows", 63, 3, &[(all, 130), (1, 2), (2, 0)], 0, &[(0, 6), (8190, 1), (8192, 1)]),
+        made_of("8,193 cells", 63, 2, &[(all, 130), (1, 3)], 8, &[]),
+        made_of("63 attributes, 131 rows", 63, 1, &[(all, 131)], 8, &[]),
+        made_of("m 0", 0, 1, &[(1, 1)], 4, &[]),
+        made_of("m 64", 64, 1, &[(1, 1)], 4, &[]),
+        made_of("n 0", 1, 0, &[(1, 1)], 4, &[]),
+        made_of("n 9", 1, 9, &[(1, 1); 8], 4, &[]),
+        made_of("scheme 0", 1, 2, &[(1, 1), (0, 1)], 5, &[]),
+        made_of("scheme 2^m", 1, 1, &[(2, 1)], 5, &[]),
+        made_of("256 rows", 1, 1, &[(1, 256)], 6, &[]),
+        made_of("65,536 rows", 1, 1, &[(1, 65_536)], 6, &[]),
+        made_of("8 of the first table before 5 of the second", 63, 2, &[(all, 131), (0, 0)], 8, &[]),
+    ]
 }
 
 /// The writer's edges.
@@ -148,7 +199,10 @@ pub fn writer() -> Vec<WriterEdge> {
         answer,
         bytes: hex(bytes),
     };
-    let one = |rows| catalogue(1, 1, &[(1, rows)]);
+    let one = |rows| catalogue(1, 1, &[(1, rows, 0, 0)]);
+    let table = |scheme, rows| [(scheme, rows, 0, 0)];
+    let eight: [(u64, u64, u64, u64); 8] = std::array::from_fn(|table| (1, 0, 0, 255 - (1 << table)));
+    let pair = |places: [u64; 2], masks: [u64; 2], rows| catalogue(1, 2, &[(1, rows, places[0], masks[0]), (1, 1, places[1], masks[1])]);
     vec![
         edge("no rows", one(0), &[], 5, (0, 5), "01 01 01 01 00"),
         edge("no rows, one byte short", one(0), &[], 4, (11, 0), ""),
@@ -160,27 +214,46 @@ pub fn writer() -> Vec<WriterEdge> {
         edge("code 128", one(1), &[128], 7, (0, 7), "01 01 01 01 01 80 01"),
         edge("code 2^63 - 1", one(1), &[top - 1], 14, (0, 14), "01 01 01 01 01 FF FF FF FF FF FF FF FF 7F"),
         edge("code 2^63", one(1), &[top], 14, (10, 0), ""),
-        edge("m 0", catalogue(0, 1, &[(1, 0)]), &[], 9, (4, 0), ""),
-        edge("m 64", catalogue(64, 1, &[(1, 0)]), &[], 9, (4, 0), ""),
-        edge("m 63", catalogue(63, 1, &[(1, 0)]), &[], 9, (0, 5), "01 3F 01 01 00"),
-        edge("n 0", catalogue(1, 0, &[(1, 0)]), &[], 9, (4, 0), ""),
-        edge("n 9", catalogue(1, 9, &[(1, 0); 8]), &[], 99, (4, 0), ""),
-        edge("n 8", catalogue(1, 8, &[(1, 0); 8]), &[], 99, (0, 19), "01 01 08 01 00 01 00 01 00 01 00 01 00 01 00 01 00 01 00"),
-        edge("scheme 0", catalogue(1, 1, &[(0, 0)]), &[], 9, (5, 0), ""),
-        edge("scheme 2^m", catalogue(1, 1, &[(2, 0)]), &[], 9, (5, 0), ""),
-        edge("scheme 2^63", catalogue(63, 1, &[(top, 0)]), &[], 9, (5, 0), ""),
+        edge("m 0", catalogue(0, 1, &table(1, 0)), &[], 9, (4, 0), ""),
+        edge("m 64", catalogue(64, 1, &table(1, 0)), &[], 9, (4, 0), ""),
+        edge("m 63", catalogue(63, 1, &table(1, 0)), &[], 9, (0, 5), "01 3F 01 01 00"),
+        edge("n 0", catalogue(1, 0, &table(1, 0)), &[], 9, (4, 0), ""),
+        edge("n 9", catalogue(1, 9, &eight), &[], 99, (4, 0), ""),
+        edge("n 8", catalogue(1, 8, &eight), &[], 99, (0, 19), "01 01 08 01 00 01 00 01 00 01 00 01 00 01 00 01 00 01 00"),
+        edge("scheme 0", catalogue(1, 1, &table(0, 0)), &[], 9, (5, 0), ""),
+        edge("scheme 2^m", catalogue(1, 1, &table(2, 0)), &[], 9, (5, 0), ""),
+        edge("scheme 2^63", catalogue(63, 1, &table(top, 0)), &[], 9, (5, 0), ""),
         edge("256 rows", one(256), &[], 9, (6, 0), ""),
         edge("65,536 rows", one(65_536), &[], 9, (6, 0), ""),
         edge("a cell too few", one(1), &[], 9, (8, 0), ""),
         edge("the same row twice", one(2), &[5, 5], 9, (7, 0), ""),
         edge("a lower row", one(2), &[5, 4], 9, (7, 0), ""),
         edge("a higher row", one(2), &[5, 6], 7, (0, 7), "01 01 01 01 02 05 06"),
-        edge("10 before 7", catalogue(2, 1, &[(3, 2)]), &[5, 5, 4, top], 99, (10, 0), ""),
+        edge("10 before 7", catalogue(2, 1, &table(3, 2)), &[5, 5, 4, top], 99, (10, 0), ""),
         edge("7 in an earlier row than 10", one(3), &[5, 4, top], 99, (7, 0), ""),
-        edge("the first table's row before the second's scheme", catalogue(1, 2, &[(1, 2), (0, 0)]), &[5, 5], 99, (7, 0), ""),
-        edge("the second table's scheme before its rows", catalogue(1, 2, &[(1, 0), (2, 256)]), &[], 99, (5, 0), ""),
+        edge("the second table's scheme before the first's row", catalogue(1, 2, &[(1, 2, 0, 0), (0, 0, 2, 0)]), &[5, 5], 99, (5, 0), ""),
+        edge("the second table's count before the first's code", catalogue(1, 2, &[(1, 1, 0, 2), (1, 256, 1, 1)]), &[top], 99, (6, 0), ""),
+        edge("the second table's cells before the first's code", catalogue(1, 2, &[(1, 1, 0, 2), (1, 1, 1, 1)]), &[top], 99, (8, 0), ""),
+        edge("the second table's scheme before its rows", catalogue(1, 2, &[(1, 0, 0, 0), (2, 256, 0, 0)]), &[], 99, (5, 0), ""),
+        edge("two tables", pair([0, 1], [2, 1], 1), &[5, 5], 9, (0, 9), "01 01 02 01 01 05 01 01 05"),
+        edge("the first place", pair([1, 1], [2, 1], 1), &[5, 5], 9, (16, 0), ""),
+        edge("the second place is the first's", pair([0, 0], [2, 1], 1), &[5, 5], 9, (16, 0), ""),
+        edge("the second place behind its table", pair([0, 2], [2, 1], 1), &[5, 5], 9, (16, 0), ""),
+        edge("a place that is right but for 2^16", pair([65_536, 1], [2, 1], 1), &[5, 5], 9, (16, 0), ""),
+        edge("the first mask has its own table", pair([0, 1], [3, 1], 1), &[5, 5], 9, (16, 0), ""),
+        edge("the first mask has no table", pair([0, 1], [0, 1], 1), &[5, 5], 9, (16, 0), ""),
+        edge("the second mask has a table from n on", pair([0, 1], [2, 5], 1), &[5, 5], 9, (16, 0), ""),
+        edge("the second mask has a ninth table", pair([0, 1], [2, 257], 1), &[5, 5], 9, (16, 0), ""),
+        edge("a mask that is right but for 2^16", pair([0, 1], [2, 65_537], 1), &[5, 5], 9, (16, 0), ""),
+        edge("masks of each other", pair([0, 1], [1, 2], 1), &[5, 5], 9, (16, 0), ""),
+        edge("tables that share nothing do not touch", catalogue(2, 2, &[(1, 1, 0, 0), (2, 1, 1, 0)]), &[5, 5], 9, (0, 9), "01 02 02 01 01 05 02 01 05"),
+        edge("tables that share nothing, one touching", catalogue(2, 2, &[(1, 1, 0, 2), (2, 1, 1, 0)]), &[5, 5], 9, (16, 0), ""),
+        edge("8 before 16", pair([9, 9], [9, 9], 1), &[5], 9, (8, 0), ""),
+        edge("16 before 10", pair([0, 1], [0, 1], 1), &[top, 5], 9, (16, 0), ""),
+        edge("16 before 7", pair([0, 9], [2, 1], 2), &[5, 5, 5], 99, (16, 0), ""),
+        edge("16 before 11", pair([0, 1], [2, 0], 1), &[5, 5], 0, (16, 0), ""),
         edge("all else before 11", one(2), &[5, 5], 0, (7, 0), ""),
-        edge("the sample", catalogue(3, 3, &[(3, 2), (6, 2), (5, 2)]), &[2, 11, 3, 21, 11, 8, 4_294_967_307, 10, 2, 8, 3, 0], 25, (0, 25),
+        edge("the sample", catalogue(3, 3, &[(3, 2, 0, 6), (6, 2, 4, 5), (5, 2, 8, 3)]), &[2, 11, 3, 21, 11, 8, 4_294_967_307, 10, 2, 8, 3, 0], 25, (0, 25),
             "01 03 03 03 02 02 0B 03 15 06 02 0B 08 8B 80 80 80 10 0A 05 02 02 08 03 00"),
     ]
 }

@@ -143,12 +143,12 @@ fn compare_tables(random: &mut Random, tally: &mut Tally, tables: &Made, maximal
         if random.percent(20) {
             stored::scatter_behind(random, &mut catalogue);
         }
-        if random.percent(20) {
+        if random.percent(30) {
             stored::spoil(random, &mut catalogue);
         }
         match random.below(12) {
             0 => {
-                let refusal = random.pick(&[4, 5, 6]);
+                let refusal = random.pick(&[4, 4, 5, 6]);
                 make::spoil(random, &mut catalogue, refusal);
             }
             1 => cells.truncate(random.below(cells.len() as u64 + 1) as usize),

@@ -138,12 +138,12 @@ pub fn any_tables(random: &mut Random) -> Tables {
             }
         }
         900..=939 => shapes.push((m, random.range(0, 8))),
-        940..=979 => {
+        940..=975 => {
             for _ in 0..random.range(1, 2) {
                 shapes.push((1, random.pick(&[127, 128, 200, 254, 255])));
             }
         }
-        980..=987 => return tables(random, 63, &[(63, 128 + style as usize % 4)]),
+        976..=985 => return tables(random, 63, &[(63, 128 + style as usize % 4)]),
         _ => {
             let total = random.pick(&[8100, 8189, 8190, 8191, 8192, 8193, 8194, 8300]);
             let m = random.range(40, 63);
@@ -422,7 +422,10 @@ pub fn given_case(random: &mut Random, tables: &Tables) -> Vec<u64> {
 pub fn writer_case(random: &mut Random, mut tables: Tables) -> WriterCase {
     let mut faults = Vec::new();
     for _ in 0..random.pick(&[0, 0, 0, 1, 1, 1, 1, 2, 3]) {
-        faults.push(random.pick(&[4, 5, 6, 7, 7, 8, 10, 10, 11, 16, 16]));
+        faults.push(random.pick(&[4, 5, 6, 7, 8, 10, 11, 16, 16, 16]));
+    }
+    if random.percent(5) {
+        faults = vec![random.pick(&[5, 6, 8]), random.pick(&[7, 10]), 10];
     }
     if faults.contains(&7) {
         disorder(random, &mut tables);

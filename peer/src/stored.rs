@@ -48,14 +48,18 @@ fn other_place(random: &mut Random, words: &[u64], table: usize) -> u64 {
 /// It may be the one that stands there.
 fn other_mask(random: &mut Random, words: &[u64], table: usize) -> u64 {
     let (mask, n) = (words[MASKS + table], tables(words).max(1));
-    let behind = random.range(n.min(7), 7);
-    match random.below(12) {
+    let bit_of = |random: &mut Random, touching: u64| {
+        let others: Vec<usize> = (0..n).filter(|&other| other != table && mask >> other & 1 == touching).collect();
+        1 << if others.is_empty() { table } else { random.pick(&others) }
+    };
+    match random.below(18) {
         0..=2 => mask | 1 << table,
-        3..=5 => mask ^ 1 << random.below(n as u64),
-        6 | 7 => mask | 1 << behind,
-        8 => words[MASKS + random.range(0, n - 1)],
-        9 => mask | 1 << random.range(8, 15),
-        10 => random.pick(&[mask | 1 << 16, mask | 1 << 32, mask | 1 << 63]),
+        3..=5 => mask ^ bit_of(random, 1),
+        6..=11 => mask ^ bit_of(random, 0),
+        12 | 13 => mask | 1 << random.range(n.min(7), 7),
+        14 => words[MASKS + random.range(0, n - 1)],
+        15 => mask | 1 << random.range(8, 15),
+        16 => random.pick(&[mask | 1 << 16, mask | 1 << 32, mask | 1 << 63]),
         _ => random.pick(&[0, !mask & 0xff, 0xff, 65_535, u64::MAX]),
     }
 }
@@ -66,7 +70,7 @@ pub fn spoil(random: &mut Random, words: &mut [u64]) {
     let n = tables(words).max(1);
     for _ in 0..random.pick(&[1, 1, 1, 1, 2, 3]) {
         let table = random.range(0, n - 1);
-        if random.percent(50) {
+        if random.percent(40) {
             words[PLACES + table] = other_place(random, words, table);
         } else {
             words[MASKS + table] = other_mask(random, words, table);

@@ -170,6 +170,19 @@ fn damage_record(random: &mut Random, lending: &mut Lending) {
     }
 }
 
+/// Spoils the catalogue so that this refusal is met: 4, 5, 6, 16, or 8 by fewer cells.
+/// A few cells may lie behind the last table, so that 8 is not always met.
+fn spoil_tables(random: &mut Random, lending: &mut Lending, refusal: u64) {
+    if refusal == 8 {
+        let length = lending.cells.length();
+        let shorter = length - random.range(0, length.min(5));
+        let values = lending.cells.slice()[..shorter].to_vec();
+        lending.cells = Lent::holding(&values, random);
+    } else {
+        make::spoil(random, lending.catalogue.slice_mut(), refusal);
+    }
+}
+
 /// Damages what is lent in one way.
 /// Some ways leave it good, which is compared as well.
 fn damage(random: &mut Random, lending: &mut Lending) {
@@ -182,21 +195,16 @@ fn damage(random: &mut Random, lending: &mut Lending) {
         let values = lent.slice()[..length.min(lent.length())].to_vec();
         Lent::holding(&values, random)
     };
-    match random.below(20) {
-        0..=4 => damage_store(random, lending),
+    match random.below(21) {
+        0..=4 | 20 => damage_store(random, lending),
         16 | 17 => chain_store(random, lending),
-        18 | 19 => stored::spoil(random, lending.catalogue.slice_mut()),
+        18 | 19 => spoil_tables(random, lending, 16),
         5..=7 => damage_record(random, lending),
         8 => {
             let refusal = random.pick(&[4, 5, 6]);
-            make::spoil(random, lending.catalogue.slice_mut(), refusal);
+            spoil_tables(random, lending, refusal);
         }
-        9 => {
-            let length = lending.cells.length();
-            let shorter = length - random.range(0, length.min(5));
-            let values = lending.cells.slice()[..shorter].to_vec();
-            lending.cells = Lent::holding(&values, random);
-        }
+        9 => spoil_tables(random, lending, 8),
         10 => {
             let m = (lending.catalogue.slice()[0] as usize).clamp(1, 63);
             lending.padded = cut(random, &lending.padded, m);
@@ -263,12 +271,16 @@ fn drain(random: &mut Random, pair: &mut Pair, tally: &mut Tally) -> Result<(), 
 /// A stream that is moved on a little, damaged, and called a few times.
 /// Sometimes open itself is damaged.
 fn damaged_calls(random: &mut Random, pair: &mut Pair, tally: &mut Tally) -> Result<(), String> {
-    match random.below(8) {
-        0 => pair.change(|lending| damage(random, lending)),
+    match random.below(12) {
+        0 | 3 => pair.change(|lending| damage(random, lending)),
         1 => {
-            let refusal = random.pick(&[4, 5, 6, 16, 16, 16, 16]);
-            pair.change(|lending| make::spoil(random, lending.catalogue.slice_mut(), refusal));
+            let refusal = random.pick(&[4, 5, 6, 8]);
+            pair.change(|lending| spoil_tables(random, lending, refusal));
+            if random.percent(40) {
+                pair.change(|lending| spoil_tables(random, lending, 16));
+            }
         }
+        2 => pair.change(|lending| spoil_tables(random, lending, 16)),
         _ => {}
     }
     pair.open(tally)?;
