@@ -22,7 +22,7 @@
 enum { RIGHT, ENTRY, MISSING, REFUSED, ERROR };
 
 /* What load gives: the catalogue's words, and the cells. */
-static uint64_t catalogue[18];
+static uint64_t catalogue[34];
 static uint64_t cells[MOST_CELLS];
 
 /* The listed keys, and the line of each. */
@@ -45,7 +45,7 @@ static int load(const char *name)
         fprintf(stderr, "%s is too long for an image\n", name);
         return ERROR;
     }
-    uint64_t answer = harbour_load(image, length, cells, MOST_CELLS, catalogue, 18, NULL, 0);
+    uint64_t answer = harbour_load(image, length, cells, MOST_CELLS, catalogue, 34, NULL, 0);
     if (answer == 0)
         return RIGHT;
     printf("refused %" PRIu64 " %" PRIu64 "\n", answer % 32, answer / 32);
@@ -119,7 +119,7 @@ static int read_list(void)
 static int check(void)
 {
     uint64_t named[1];
-    uint64_t answer = harbour_check_list(catalogue, 18, cells, MOST_CELLS, listed, count, named, 1);
+    uint64_t answer = harbour_check_list(catalogue, 34, cells, MOST_CELLS, listed, count, named, 1);
     switch (answer) {
     case 32:
         puts("right");

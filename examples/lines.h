@@ -17,7 +17,7 @@
 #define BUDGET 3
 
 /* What load gives: the catalogue's words, and the cells. */
-static uint64_t catalogue[18];
+static uint64_t catalogue[34];
 static uint64_t cells[MOST_CELLS];
 
 /* What a stream works in, from open to its end: the store, the record, which may name a row, a padded row and a result. */
@@ -46,7 +46,7 @@ static bool loads(int *status)
         puts("input too long");
         return false;
     }
-    uint64_t loaded = harbour_load(image, length, cells, MOST_CELLS, catalogue, 18, NULL, 0);
+    uint64_t loaded = harbour_load(image, length, cells, MOST_CELLS, catalogue, 34, NULL, 0);
     if (loaded != 0)
         printf("refused %" PRIu64 " %" PRIu64 "\n", loaded % 32, loaded / 32);
     return loaded == 0;

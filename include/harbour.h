@@ -55,11 +55,19 @@ uint64_t harbour_check(const uint8_t *image, size_t length);
  * length counts elements; with length 0 a pointer is not followed and may be NULL.
  * No slice that a call writes may overlap another slice of that call.
  *
- * A catalogue is 18 words: the number of attributes, the number of tables, eight
- * schemes, eight row counts. A stream record is 3 words: records found, records
- * handed out, next row; that of a stream of one row is 5: the same, then the row's
- * table and its number. A result is 4 words: key, trials, row tests, looks. Words
- * behind these stay. Where fewer are lent, the answer is 31 and nothing changes.
+ * A catalogue is 34 words: the number of attributes, the number of tables, eight
+ * schemes, eight row counts, eight places, eight masks. A table's place is where its
+ * first cell lies among the cells, or would lie if it had rows. Bit u of table t's
+ * mask is set when t and u touch: they are different tables, and their schemes share
+ * an attribute. Entries of tables that are not there are ignored. harbour_load and
+ * harbour_make_catalogue fill a catalogue; who sets its words otherwise has to set
+ * places and masks too. A row count, place or mask above 65,535 counts as 65,535, and
+ * is refused as it would be.
+ *
+ * A stream record is 3 words: records found, records handed out, next row; that of a
+ * stream of one row is 5: the same, then the row's table and its number. A result is
+ * 4 words: key, trials, row tests, looks. Words behind these stay. Where fewer are
+ * lent, the answer is 31 and nothing changes.
  *
  * The store is three arrays, keys, left and right; it has as many records as the
  * shortest of them has elements, and at most 65,535. The caller keeps the store and
@@ -72,14 +80,19 @@ uint64_t harbour_check(const uint8_t *image, size_t length);
  *   12  the store is full
  *   13  the stream record does not fit the tables and the store
  *   14  the store is damaged
+ *   16  a place or a mask in the catalogue is not the one worked out
  *   19  there is no such table or row
+ *
+ * A catalogue that is lent is checked first, and before any cell is looked at: 4; then
+ * table by table 5, 6 and 8; then 16.
  */
 
 /*
  * Loads an image: its codes into the cells, its catalogue into the words. The
  * answer is as of harbour_check, with room for 8,192 cells or as many as are lent,
- * whichever is less. A refused image leaves the cells as they were and gives a
- * catalogue of zeros.
+ * whichever is less. A good image gives a catalogue with its places and masks, and
+ * zeros for tables that are not there. A refused image leaves the cells as they were
+ * and gives a catalogue of zeros.
  *
  * The first word of `looked` tells how many bytes of the number at fault were
  * looked at, with refusal 1 (0 to 8), 2 (2 to 9) and 17 (9); with another refusal
@@ -91,16 +104,28 @@ uint64_t harbour_load(const uint8_t *image, size_t image_length,
                       uint64_t *looked, size_t looked_length);
 
 /*
+ * Makes the catalogue of tables made by hand. `given` is its first 18 words: the
+ * number of attributes, the number of tables, eight schemes, eight row counts. The
+ * answer is 0, and the catalogue is these words with places and masks behind them,
+ * zeros for tables that are not there; or the first of the refusals 4 and, table by
+ * table, 5, 6 and 8, with room for 8,192 cells, and the catalogue is of zeros.
+ */
+uint64_t harbour_make_catalogue(const uint64_t *given, size_t given_length,
+                                uint64_t *catalogue, size_t catalogue_length);
+
+/*
  * Writes the image of tables. The answer is its length * 32, or the refusal, and
- * then no byte is written.
+ * then no byte is written: the catalogue's, then row by row through all tables 10,
+ * then 7, last 11.
  */
 uint64_t harbour_write(const uint64_t *catalogue, size_t catalogue_length,
                        const uint64_t *cells, size_t cells_length,
                        uint8_t *out, size_t out_length);
 
 /*
- * Opens a stream of the row sets of tables. The answer is row tests * 32 + refusal.
- * Refused, it gives a record of zeros and leaves the store as it was.
+ * Opens a stream of the row sets of tables. The answer is row tests * 32 + refusal:
+ * the catalogue's, then 12. Refused, it gives a record of zeros and leaves the store
+ * as it was.
  */
 uint64_t harbour_open(const uint64_t *catalogue, size_t catalogue_length,
                       const uint64_t *cells, size_t cells_length,
@@ -118,6 +143,10 @@ uint64_t harbour_open(const uint64_t *catalogue, size_t catalogue_length,
  *
  * or a refusal. The record is moved on. With another answer than 32 the key is 0
  * and padded stays.
+ *
+ * Before any trial it is refused with the catalogue's 4, 5, 6, 8 or 16, then 13, then
+ * 11; only the result is then changed, to zeros. 12 and 14 are met at work: the trials
+ * done before stand and are counted, and the one that failed leaves no mark.
  */
 uint64_t harbour_next(const uint64_t *catalogue, size_t catalogue_length,
                       const uint64_t *cells, size_t cells_length,
@@ -131,9 +160,9 @@ uint64_t harbour_next(const uint64_t *catalogue, size_t catalogue_length,
 
 /*
  * Opens a stream of the row sets that hold one row: tables are numbered from 0, the
- * rows of a table from 1. The answer is row tests * 32 + refusal: 4, 5, 6 or 8 for the
- * tables, then 19, then 12. The record is 5 words. Refused, it gives a record of zeros
- * and leaves the store as it was.
+ * rows of a table from 1. The answer is row tests * 32 + refusal: the catalogue's 4, 5,
+ * 6, 8 or 16, then 19, then 12. The record is 5 words. Refused, it gives a record of
+ * zeros and leaves the store as it was.
  */
 uint64_t harbour_open_holding(const uint64_t *catalogue, size_t catalogue_length,
                               const uint64_t *cells, size_t cells_length,
@@ -148,10 +177,7 @@ uint64_t harbour_open_holding(const uint64_t *catalogue, size_t catalogue_length
  * row comes once, and no other. A trial that leads to a set without the row makes no
  * look. The record is moved on, and goes on naming its row.
  *
- * Before any trial it is refused with 4, 5, 6 or 8 for the tables, then 13, which is
- * met too where the record names no such row, then 11; only the result is then
- * changed, to zeros. 12 and 14 are met at work: the trials done before stand and are
- * counted, and the one that failed leaves no mark.
+ * It is refused as harbour_next is; 13 is met too where the record names no such row.
  */
 uint64_t harbour_next_holding(const uint64_t *catalogue, size_t catalogue_length,
                               const uint64_t *cells, size_t cells_length,
@@ -183,7 +209,7 @@ uint64_t harbour_covers(const uint64_t *first, size_t first_length,
  *        first that trials of all rows on the listed sets reach, in the list's order
  *        (for an empty list, what the first row extends to)
  *
- * or one of the refusals 4, 5, 6 and 8. The result is 1 word; with 32 and a refusal
+ * or one of the refusals 4, 5, 6, 8 and 16. The result is 1 word; with 32 and a refusal
  * it is 0. No memory is asked for; the call takes about 270 kB of stack.
  */
 uint64_t harbour_check_list(const uint64_t *catalogue, size_t catalogue_length,
