@@ -2,8 +2,8 @@
 -- Assumes nothing.
 use Prim.Native.Nat.{ℕ, suc, _-_, _^_, _≤_, _<_}
 use mathlib.Core.Path.{_≡_, refl, sym, ap, _∙_}
-use mathlib.Core.Logic.{_⊎_, inl, inr, ⊎-elim, _≢_}
-use mathlib.Core.Bool.{Bool, true, false, not, cond}
+use mathlib.Core.Logic.{inl, ⊎-elim, _≢_}
+use mathlib.Core.Bool.{Bool, true, false, not}
 use mathlib.Core.List.{List}
 use native.Mathlib.Omega.{arith}
 use lib.ListN.{length}
@@ -79,7 +79,7 @@ module _ (cat : Catalogue) (cells : List ℕ) (key : ℕ) where
 
   module _ (live : ℕ) (S : Shut cat cells key live) where
     -- A table that is live no more has no row that the row test admits.
-    pub shut-test : (t : ℕ) → t < cat .n → bitOf live t ≡ false → NoneIn (countOf cat t) (tested cat cells key t)
+    shut-test : (t : ℕ) → t < cat .n → bitOf live t ≡ false → NoneIn (countOf cat t) (tested cat cells key t)
     shut-test t l h i b = lost-test (worldOf cat cells) (setOf cat key) (row t i) long (S .lost t l h i b)
 
     -- A table is live no more, as all of its rows are out of the question; the set may have grown by one of them.

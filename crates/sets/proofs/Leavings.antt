@@ -1,10 +1,8 @@
 -- A set's key from which the rows of some tables are taken one after the other. Assumes nothing.
 use Prim.Native.Nat.{ℕ, _-_, _*_, _^_, _<_}
 use mathlib.Core.Path.{_≡_, sym, ap, _∙_}
-use mathlib.Core.Logic.{⊎-elim, _≢_}
 use mathlib.Core.Bool.{true, false}
 use mathlib.Core.List.{List}
-use native.Mathlib.Omega.{arith}
 use native.Mathlib.Decide.{ℕ-discrete}
 use lib.ListN.{length}
 use lib.Bits.{bitXor}
@@ -16,7 +14,6 @@ use Rattle.keys.proofs.KeyLaws.{row-same, row-other, with-lt}
 use Rattle.keys.proofs.SetLaws.{in-length, in-at, in-by}
 use Rattle.tables.specs.declared.Catalogue.{Catalogue}
 use Rattle.disjunction.specs.Sets.{at}
-use Rattle.rows.specs.World.{setOf}
 use Rattle.walks.specs.Merged.{Under}
 use Rattle.sets.specs.declared.RowSet.{RowSet}
 use Rattle.sets.specs.Promises.{SetFor, lacking}

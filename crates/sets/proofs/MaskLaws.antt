@@ -33,7 +33,7 @@ and-yes true = refl
 and-yes false = refl
 
 -- A word without one of its bits.
-pub bit-without : (k a u : ℕ) → bitOf k a ≡ true → bitOf (k - 2 ^ a) u ≡ bitOf k u && not (eqb u a)
+bit-without : (k a u : ℕ) → bitOf k a ≡ true → bitOf (k - 2 ^ a) u ≡ bitOf k u && not (eqb u a)
 bit-without k a u h = go (ℕ-discrete u a)
   where
     go : Dec (u ≡ a) → bitOf (k - 2 ^ a) u ≡ bitOf k u && not (eqb u a)

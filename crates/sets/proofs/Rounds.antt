@@ -18,9 +18,8 @@ use Rattle.tables.specs.declared.Catalogue.{Catalogue}
 use Rattle.tables.specs.Catalogues.{schemeOf, countOf, rowStart, rowsBefore}
 use Rattle.tables.specs.Checks.{Lawful}
 use Rattle.tables.proofs.CatalogueLaws.{rows-next, rows-few}
-use Rattle.disjunction.specs.Sets.{Tables, at, size}
+use Rattle.disjunction.specs.Sets.{Tables, at}
 use Rattle.disjunction.specs.Rule.{Place, hit, miss, walk, Grown, rows, rowTest, extension}
-use Rattle.disjunction.proofs.RowSets.{size-le, size-set}
 use Rattle.disjunction.proofs.RowTests.{rowTest-absent}
 use Rattle.disjunction.proofs.RowOrder.{rowsBelow-at, rowsBelow-mono}
 use Rattle.disjunction.proofs.Growing.{walk-hit, walk-miss}
@@ -156,12 +155,6 @@ module _ (cat : Catalogue) (cells : List ℕ) (lent : ℕ) (L : Lawful cat lent)
 
     new : at (setOf cat key) t ≡ 0
     new = rowTest-absent (W cat cells) (setOf cat key) (record { table = t; row = suc i }) (f .found b)
-
-    pub growing-less : cat .n - size (setOf cat (withRow bitsPerRow key t (suc i))) < cat .n - size (setOf cat key)
-    growing-less =
-        let e : size (setOf cat (withRow bitsPerRow key t (suc i))) ≡ suc (size (setOf cat key)) =
-        ap size (in-with bitsPerRow (cat .n) key t (suc i) l small) ∙ size-set (setOf cat key) t (suc i) (rw (in-length bitsPerRow (cat .n) key) l) new (omega arith) in
-        omega (arith, e, size-le (setOf cat (withRow bitsPerRow key t (suc i))), in-length bitsPerRow (cat .n) (withRow bitsPerRow key t (suc i)))
 
     pub one-more : OneMore (at (setOf cat key)) (at (setOf cat (withRow bitsPerRow key t (suc i)))) t (suc i)
     one-more =

@@ -1,6 +1,6 @@
 -- The row test, one law for each way of the code: the table is present, it does not touch the set, the merged row decides. And where a table's rows begin.
 -- The laws of the merged row and of the masks of touching tables carry the test. Assumes nothing.
-use Prim.Native.Nat.{ℕ, suc, _+_, _-_, _<_}
+use Prim.Native.Nat.{ℕ, suc, _-_, _<_}
 use mathlib.Core.Path.{_≡_, sym, ap, _∙_}
 use mathlib.Core.Logic.{_↔_, _≢_, ⊎-elim}
 use mathlib.Core.Bool.{Bool, true, false, not, _&&_}

@@ -1,9 +1,8 @@
 -- `sets::extended` meets its contract. Invariant: what is left to do from here is the whole extension (`Growing`), no row of a table that is not live is ever
 -- added (`Shut`), and the tables that touch the set are in reach (`Reach`). Each turn takes a table from those that are live. Assumes nothing.
-use borrow.Author.Needs.{needs}
 use native.Mathlib.Omega.{arith}
 use native.Mathlib.Numerals.{add-one}
-use Prim.Native.Nat.{ℕ, suc, _+_, _-_, _*_, _%_, _^_, _≤_, _<_}
+use Prim.Native.Nat.{ℕ, suc, _+_, _*_, _%_, _^_, _≤_, _<_}
 use mathlib.Core.Path.{_≡_, refl, sym, subst, _∙_}
 use mathlib.Core.Logic.{⊎-elim}
 use mathlib.Core.Bool.{true}

@@ -1,8 +1,5 @@
 -- `sets::kept` meets its contract: the row comes in (`added-set`), and the rows that have to go are taken (`gone-dropped`). Assumes nothing.
-use borrow.Author.Needs.{needs}
 use native.Mathlib.Omega.{arith}
-use Prim.Native.Nat.{ℕ, _*_, _%_, _^_}
-use mathlib.Core.Path.{_≡_}
 use Rattle.keys.specs.Keys.{bitsPerRow}
 use Rattle.keys.proofs.SetLaws.{in-length}
 use Rattle.tables.proofs.CatalogueLaws.{one-shl}

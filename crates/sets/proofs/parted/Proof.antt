@@ -16,8 +16,7 @@ use Rattle.keys.proofs.SetLaws.{in-at, in-length}
 use Rattle.tables.specs.Sizes.{mostTables}
 use Rattle.tables.specs.Catalogues.{schemeOf, rowStart, placeIn, maskIn}
 use Rattle.tables.proofs.CatalogueLaws.{one-shl}
-use Rattle.disjunction.specs.Sets.{at, Member}
-use Rattle.disjunction.specs.Rule.{Place}
+use Rattle.disjunction.specs.Sets.{at}
 use Rattle.rows.specs.World.{setOf, placeOf}
 use Rattle.rows.specs.Named.{There}
 use Rattle.rows.proofs.WorldLaws.{row-room}

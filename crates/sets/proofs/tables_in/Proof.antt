@@ -1,17 +1,12 @@
 -- `sets::tables_in` meets its contract. Invariant: the mask has the tables below u that have a row in the key. Assumes nothing.
 use borrow.Author.Needs.{needs}
 use native.Mathlib.Omega.{arith}
-use native.Mathlib.Decide.{decLt}
-use Prim.Native.Nat.{ℕ, _-_, _≤_, _<_}
-use mathlib.Core.Path.{_≡_, sym, _∙_}
+use Prim.Native.Nat.{_-_, _≤_}
+use mathlib.Core.Path.{sym, _∙_}
 use mathlib.Core.Logic.{⊎-elim}
-use mathlib.Core.Bool.{false}
-use Rattle.words.specs.Words.{bitOf}
-use Rattle.words.proofs.WordLaws.{zero-bit}
 use Rattle.keys.specs.Keys.{bitsPerRow, rowsIn}
 use Rattle.keys.proofs.SetLaws.{in-at, in-past}
 use Rattle.tables.proofs.CatalogueLaws.{one-shl}
-use Rattle.disjunction.specs.Rule.{member}
 use Rattle.sets.proofs.LackingLaws.{Marked, marked-none, marked-row, marked-skip, marked-end}
 use Rattle.sets.proofs.tables_in.Statement.{statement}
 use Rattle.sets.proofs.tables_in.Tie as tie

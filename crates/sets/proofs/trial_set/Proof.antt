@@ -1,5 +1,4 @@
 -- `sets::trial_set` meets its contract: its calls are the rule's three steps (`tried`), each on the set with its tables. Assumes nothing.
-use borrow.Author.Needs.{needs}
 use native.Mathlib.Omega.{arith}
 use Rattle.tables.proofs.CatalogueLaws.{lawful-all}
 use Rattle.sets.proofs.Trials.{kept-own, kept-here, start-named, start-tables, tried}

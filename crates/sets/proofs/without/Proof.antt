@@ -1,8 +1,6 @@
 -- `sets::without` meets its contract. Invariant: the key has no row of the tables passed, and the others as they were (`Leaving`). Assumes nothing.
 use borrow.Author.Needs.{needs}
-use native.Mathlib.Omega.{arith}
-use Prim.Native.Nat.{ℕ, _<_}
-use mathlib.Core.Path.{_≡_}
+use Prim.Native.Nat.{ℕ}
 use mathlib.Core.List.{List}
 use lib.Pow.{pow-pos}
 use Rattle.words.proofs.WordLaws.{less-lt}
