@@ -1,6 +1,6 @@
 -- A catalogue's refusals, each exactly when: 4 from the sizes, 5, 6 and 8 from the first table that meets one, 16 from what is stored. What carries the proof: for every number
 -- that a check can give there is a condition, and it gives the number exactly when that holds. Assumes nothing.
-use Prim.Native.Nat.{ℕ, _+_, _*_, _^_, _<_}
+use Prim.Native.Nat.{ℕ, zero, suc, _+_, _*_, _^_, _≤_, _<_}
 use native.Mathlib.Decide.{ℕ-discrete}
 use native.Mathlib.Omega.{arith}
 use mathlib.Core.Path.{_≡_, refl, sym, ap, subst, _∙_}
@@ -11,12 +11,15 @@ use lib.Dec.{ltb, leb, eqb}
 use Rattle.laws.specs.Tests.{any}
 use Rattle.laws.proofs.TestLaws.{clash, any-some, any-of}
 use Rattle.tables.specs.declared.Catalogue.{Catalogue}
+use Rattle.tables.specs.declared.Made.{Made}
+use mathlib.Core.List.{List}
 use Rattle.tables.specs.Sizes.{mostAttributes, mostTables, mostRows, mostCells}
-use Rattle.tables.specs.Catalogues.{schemeOf, countOf, firstCell, touchingOf, placeIn, maskIn}
-use Rattle.tables.specs.Checks.{firstOf, outside, sizeFault, badScheme, countFault, tableFault, tablesFault, shapeFault, misstored, storedFault, catalogueFault}
-use Rattle.tables.proofs.CheckLaws.{first-none, first-clear, faultAt, fault-lawful, lawful-fault}
+use Rattle.tables.specs.Catalogues.{schemeOf, countOf, firstCell, touchingOf, filled, given, noTables, placeIn, maskIn}
+use Rattle.tables.specs.Checks.{firstOf, outside, sizeFault, badScheme, countFault, tableFault, tablesFault, shapeFault, misstored, storedFault, catalogueFault, Lawful, madeIf, Makes}
+use Rattle.tables.proofs.CheckLaws.{first-none, first-clear, faultAt, shape-clear, fault-lawful, lawful-fault}
+use Rattle.tables.proofs.StoredLaws.{filled-lawful, made-refused, made-filled}
 use Rattle.tables.proofs.CatalogueLaws.{cells-next}
-use Rattle.claims.specs.CatalogueRefusals.{SizesOut, BadScheme, ManyRows, ManyCells, GoodHead, ComesTo, Misstored, ComesToStored, OfCatalogue, CatalogueExact}
+use Rattle.claims.specs.CatalogueRefusals.{SizesOut, BadScheme, ManyRows, ManyCells, GoodHead, ComesTo, Misstored, ComesToStored, OfCatalogue, CatalogueExact, MakeExact}
 use Rattle.claims.proofs.ScanLaws.{lt-iff, le-iff, eq-iff, or-iff, not-iff, Case, case-of, step-iff, last-iff, first-iff, scan, scan-of, Meets, meets-iff, meets-none}
 
 module _ (cat : Catalogue) where
@@ -178,10 +181,11 @@ module _ (cat : Catalogue) where
           λ e. p .1 (inl e),
         )
 
+    shape-four : (shapeFault cat lent ≡ 4) ↔ SizesOut cat
+    shape-four = checked-four (faultAt cat lent) (Head lent) (head-iff lent) (shapeFault cat lent) whole (λ t x. x .1 .1)
+
     catalogue-four : (catalogueFault cat lent ≡ 4) ↔ SizesOut cat
-    catalogue-four =
-        Iff·trans (shape-met 4 (λ z. absurd (omega arith)) (λ z. absurd (omega arith)))
-        (checked-four (faultAt cat lent) (Head lent) (head-iff lent) (shapeFault cat lent) whole (λ t x. x .1 .1))
+    catalogue-four = Iff·trans (shape-met 4 (λ z. absurd (omega arith)) (λ z. absurd (omega arith))) shape-four
 
     shape-table : (k : ℕ) → (k ≡ 0 → ⊥) → (Sized k → ⊥) → (shapeFault cat lent ≡ k) ↔ ((t : ℕ) × ComesTo cat lent t × Head lent t k)
     shape-table k h n =
@@ -233,18 +237,75 @@ catalogue-exact cat lent =
       no-other = catalogue-other cat lent;
     }
 
+-- ---- a catalogue that is made
+
+-- The answer is what the tables meet, and the catalogue with it.
+module _ (m n : ℕ) (xs cs : List ℕ) (r : Made) (M : Makes m n xs cs r) where
+  abbrev said : Catalogue
+  said = given m n xs cs
+
+  made-met : r .refusal ≡ shapeFault said mostCells
+  made-met = ap (λ (x : Made). x .refusal) M ∙ by (shapeFault said mostCells)
+    where
+      by : (k : ℕ) → madeIf k said .refusal ≡ k
+      by zero = refl
+      by (suc k) = refl
+
+  made-good : r .refusal ≡ 0 → r .catalogue ≡ filled said
+  made-good e = ap (λ (x : Made). x .catalogue) (M ∙ made-filled (shapeFault said mostCells) said (sym made-met ∙ e))
+
+  made-zeros : (r .refusal ≡ 0 → ⊥) → r .catalogue ≡ noTables
+  made-zeros n = ap (λ (x : Made). x .catalogue) (M ∙ made-refused (shapeFault said mostCells) said (λ e. n (made-met ∙ e)))
+
+  made-iff : {A : Type 0} (k : ℕ) → ((shapeFault said mostCells ≡ k) ↔ A) → (r .refusal ≡ k) ↔ A
+  made-iff k p = (λ e. p .0 (sym made-met ∙ e), λ a. made-met ∙ p .1 a)
+
+  made-lawful : (r .refusal ≡ 0) ↔ Lawful (r .catalogue) mostCells
+  made-lawful = (
+    λ e. rw (made-good e) (filled-lawful said mostCells (shape-clear said mostCells (sym made-met ∙ e))),
+    λ L. elim (ℕ-discrete (r .refusal) 0) [
+      | yes e ↦ e
+      | no h ↦ absurd (let z : 1 ≤ 0 = subst (λ (c : Catalogue). 1 ≤ c .m) (made-zeros h) (L .some-attribute) in omega arith)
+    ],
+  )
+
+  made-other : (k : ℕ) → r .refusal ≡ k → (k ≡ 0) ⊎ (k ≡ 4) ⊎ (k ≡ 5) ⊎ (k ≡ 6) ⊎ (k ≡ 8)
+  made-other k e =
+      elim (ℕ-discrete k 0) [
+        | yes z ↦ inl z
+        | no h ↦ elim (ℕ-discrete k 4) [
+          | yes f ↦ inr (inl f)
+          | no f ↦
+              let (t, c, x) = shape-table said mostCells k h (sized-four said k h f) .0 (sym made-met ∙ e) in
+              ⊎-elim inl (λ s. inr (inr s)) (which-head said mostCells t k x)
+        ]
+      ]
+
+  pub make-exact : MakeExact m n xs cs r
+  make-exact =
+      record {
+        refusal-4 = made-iff 4 (shape-four said mostCells);
+        refusal-5 = made-iff 5 (shape-table said mostCells 5 (λ z. absurd (omega arith)) (λ s. s));
+        refusal-6 = made-iff 6 (flat-six said mostCells (shape-table said mostCells 6 (λ z. absurd (omega arith)) (λ s. s)));
+        refusal-8 = made-iff 8 (flat-eight said mostCells (shape-table said mostCells 8 (λ z. absurd (omega arith)) (λ s. s)));
+        none = made-lawful;
+        said = made-good;
+        zeros = made-zeros;
+        no-other = made-other;
+      }
+
 -- ---- the other numbers
 
 -- Whether k is one of them, or 0.
-among : ℕ → Bool
+abbrev among : ℕ → Bool
 among k = eqb k 0 || (eqb k 4 || (eqb k 5 || (eqb k 6 || (eqb k 8 || eqb k 16))))
 
 -- A catalogue meets no other: `refl` is the proof that a number is one.
 pub catalogue-not : (cat : Catalogue) (lent k : ℕ) → among k ≡ false → catalogueFault cat lent ≡ k → ⊥
-catalogue-not cat lent k no e = by (catalogue-exact cat lent .no-other k e)
+catalogue-not cat lent k f e = by (catalogue-exact cat lent .no-other k e)
   where
     is : (j : ℕ) → k ≡ j → among j ≡ true → ⊥
-    is j x y = clash (subst (λ (i : ℕ). among i ≡ true) (sym x) y) no
+    is j x y = clash (subst (λ (i : ℕ). among i ≡ true) (sym x) y) f
 
     by : (k ≡ 0) ⊎ OfCatalogue k → ⊥
     by (inl x) = is 0 x refl

@@ -28,8 +28,8 @@ use Rattle.verdicts.specs.Number.{doorNumber, lookedIn}
 use Rattle.machine.specs.Machine.{State, stateFor, Says, aSet, finished, working, refused, Called, answer, callFault, call, Opened, zeros, openingFor}
 use Rattle.machine.proofs.RefusalLaws.{call-refused}
 use Rattle.stream.specs.Promises.{stateOf, holdingStateOf}
-use Rattle.abi.specs.Words.{catalogueWords, wordsOf, catalogueIn}
-use Rattle.abi.specs.Calls.{tooFewWords, short, LoadCall, writtenNumber, WriteCall}
+use Rattle.abi.specs.Words.{catalogueWords, tableWords, wordsOf, catalogueIn}
+use Rattle.abi.specs.Calls.{tooFewWords, short, LoadCall, makeShort, madeIn, MakeCall, writtenNumber, WriteCall}
 use Rattle.abi.specs.Lists.{verdictNumber, verdictWord, verdictWords, listShort, ListCall}
 use Rattle.hub.specs.declared.ListVerdict.{ListVerdict}
 use Rattle.hub.specs.declared.ListVerdict.the-variants as Hub
@@ -40,7 +40,7 @@ use Rattle.claims.specs.CallsForC.{Reads, ReadsList, OpenTold, CallTold,
 use Rattle.claims.proofs.ScanLaws.{lt-iff, or-iff, iff-no}
 use Rattle.claims.proofs.LoadExactly.{load-exact, some-refusal}
 use Rattle.claims.proofs.WriteExactly.{write-exact}
-use Rattle.claims.proofs.CatalogueExactly.{catalogue-exact, of-catalogue-low}
+use Rattle.claims.proofs.CatalogueExactly.{catalogue-exact, of-catalogue-low, make-exact}
 use Rattle.claims.proofs.ListChecked.{list-exact}
 use Rattle.claims.proofs.CallExactly.{call-exact, open-exact}
 use Rattle.claims.proofs.Exact.{demand1}
@@ -121,6 +121,32 @@ module _ (image cells words looked : List ℕ) (r : ℕ) (cells′ words′ look
               ∙ ap (λ (v : Verdict). set looked 0 (lookedIn v)) e,
         )
 
+make-short-iff : (given words : List ℕ) → (makeShort given words ≡ true) ↔ ((length given < tableWords) ⊎ (length words < catalogueWords))
+unfolding makeShort
+make-short-iff given words = or-iff (ltb (length given) tableWords) (short words) (lt-iff (length given) tableWords) (lt-iff (length words) catalogueWords)
+
+module _ (given words : List ℕ) (r : ℕ) (words′ : List ℕ) (c : MakeCall given words r words′) where
+  make-apart : madeIn given .refusal ≡ tooFewWords → ⊥
+  make-apart e = by (make-exact _ _ _ _ (madeIn given) refl .no-other tooFewWords e)
+    where
+      by : (tooFewWords ≡ 0) ⊎ (tooFewWords ≡ 4) ⊎ (tooFewWords ≡ 5) ⊎ (tooFewWords ≡ 6) ⊎ (tooFewWords ≡ 8) → ⊥
+      by (inl z) = absurd (omega arith)
+      by (inr (inl z)) = absurd (omega arith)
+      by (inr (inr (inl z))) = absurd (omega arith)
+      by (inr (inr (inr (inl z)))) = absurd (omega arith)
+      by (inr (inr (inr (inr z)))) = absurd (omega arith)
+
+  make-few : (r ≡ tooFewWords) ↔ ((length given < tableWords) ⊎ (length words < catalogueWords))
+  make-few = only-few (makeShort given words) (madeIn given .refusal) r (make-short-iff given words) make-apart (c .answer)
+
+  make-told : ((length given < tableWords) ⊎ (length words < catalogueWords) → ⊥)
+      → (r ≡ madeIn given .refusal) × (words′ ≡ put (wordsOf (madeIn given .catalogue)) words)
+  make-told n =
+      let long = iff-no (makeShort given words) (make-short-iff given words) .1 n in (
+        behind (makeShort given words) tooFewWords (madeIn given .refusal) r long (c .answer),
+        behind (makeShort given words) words (put (wordsOf (madeIn given .catalogue)) words) words′ long (c .words-after),
+      )
+
 module _ (words cells out : List ℕ) (r : ℕ) (out′ : List ℕ) (c : WriteCall words cells out r out′) where
   abbrev says : Written
   says = written (catalogueIn words) cells (length out)
@@ -171,13 +197,9 @@ module _ (w : ℕ) (a : Asked) (catalogue cells keys left right words : List ℕ
   open-low : o .refusal < tooFewWords
   open-low = by (open-exact (catalogueIn catalogue) cells a keys left right .no-other (o .refusal) refl)
     where
-      by : (o .refusal ≡ 0) ⊎ ((o .refusal ≡ 4) ⊎ (o .refusal ≡ 5) ⊎ (o .refusal ≡ 6) ⊎ (o .refusal ≡ 8)) ⊎ (o .refusal ≡ 19) ⊎ (o .refusal ≡ 12)
-          → o .refusal < tooFewWords
+      by : (o .refusal ≡ 0) ⊎ OfCatalogue (o .refusal) ⊎ (o .refusal ≡ 19) ⊎ (o .refusal ≡ 12) → o .refusal < tooFewWords
       by (inl e) = omega arith
-      by (inr (inl (inl e))) = omega arith
-      by (inr (inl (inr (inl e)))) = omega arith
-      by (inr (inl (inr (inr (inl e))))) = omega arith
-      by (inr (inl (inr (inr (inr e))))) = omega arith
+      by (inr (inl x)) = omega (arith, of-catalogue-low (o .refusal) x)
       by (inr (inr (inl e))) = omega arith
       by (inr (inr (inr e))) = omega arith
 
@@ -332,6 +354,8 @@ abi-exact =
       load-good = λ image cells words looked r cells′ words′ looked′ c h. subst (λ (x : ℕ). (x ≡ 0) ↔ (scanOf image (length cells) .verdict ≡ Good))
           (sym (load-answer image cells words looked r cells′ words′ looked′ c h)) (door-good image (length cells));
       load-refused = load-refused;
+      make-few = make-few;
+      make-told = make-told;
       write-few = write-few;
       write-length = write-length;
       write-refused = write-refused;

@@ -35,7 +35,7 @@ iff-no a p = (λ e x. clash (p .1 x) e, λ n. not-yes a (λ e. n (p .0 e)))
 
 -- The other way round.
 pub not-iff : {A : Type 0} (a : Bool) → ((a ≡ true) ↔ A) → (not a ≡ true) ↔ (A → ⊥)
-not-iff true p = (λ e. absurd (clash (sym e) refl), λ n. absurd (n (p .0 refl)))
+not-iff true p = (λ e. absurd (clash e refl), λ n. absurd (n (p .0 refl)))
 not-iff false p = (λ e x. clash (p .1 x) refl, λ n. refl)
 
 -- ---- what one number stands for

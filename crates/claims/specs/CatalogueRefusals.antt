@@ -4,8 +4,10 @@ use Prim.Native.Nat.{ℕ, _+_, _^_, _≤_, _<_}
 use mathlib.Core.Path.{_≡_}
 use mathlib.Core.Logic.{_⊎_, _↔_}
 use Rattle.tables.specs.declared.Catalogue.{Catalogue}
+use Rattle.tables.specs.declared.Made.{Made}
+use mathlib.Core.List.{List}
 use Rattle.tables.specs.Sizes.{mostAttributes, mostTables, mostRows, mostCells}
-use Rattle.tables.specs.Catalogues.{schemeOf, countOf, firstCell, touchingOf, placeIn, maskIn}
+use Rattle.tables.specs.Catalogues.{schemeOf, countOf, firstCell, touchingOf, filled, given, noTables, placeIn, maskIn}
 use Rattle.tables.specs.Checks.{catalogueFault, Lawful}
 
 -- "4: m or n out of range"
@@ -56,3 +58,18 @@ pub record CatalogueExact (cat : Catalogue) (lent : ℕ) : Type 0 where
   pub refusal-16 : (catalogueFault cat lent ≡ 16) ↔ (ComesToStored cat lent × ((t : ℕ) × (t < cat .n) × Misstored cat t))
   pub none : (catalogueFault cat lent ≡ 0) ↔ Lawful cat lent
   pub no-other : (k : ℕ) → catalogueFault cat lent ≡ k → (k ≡ 0) ⊎ OfCatalogue k
+
+-- The call that makes a catalogue of m, n, schemes and row counts: each refusal exactly when, for as many cells as there can be; and what it gives.
+pub record MakeExact (m n : ℕ) (schemes rows : List ℕ) (r : Made) : Type 0 where
+  pub refusal-4 : (r .refusal ≡ 4) ↔ SizesOut (given m n schemes rows)
+  pub refusal-5 : (r .refusal ≡ 5) ↔ ((t : ℕ) × ComesTo (given m n schemes rows) mostCells t × BadScheme (given m n schemes rows) t)
+  pub refusal-6 : (r .refusal ≡ 6)
+      ↔ ((t : ℕ) × ComesTo (given m n schemes rows) mostCells t × (BadScheme (given m n schemes rows) t → ⊥) × ManyRows (given m n schemes rows) t)
+  pub refusal-8 : (r .refusal ≡ 8)
+      ↔ ((t : ℕ) × ComesTo (given m n schemes rows) mostCells t × (BadScheme (given m n schemes rows) t → ⊥) × (ManyRows (given m n schemes rows) t → ⊥)
+      × ManyCells (given m n schemes rows) mostCells t)
+  -- A catalogue that is given is lawful and says what was said, and only then is none refused.
+  pub none : (r .refusal ≡ 0) ↔ Lawful (r .catalogue) mostCells
+  pub said : r .refusal ≡ 0 → r .catalogue ≡ filled (given m n schemes rows)
+  pub zeros : (r .refusal ≡ 0 → ⊥) → r .catalogue ≡ noTables
+  pub no-other : (k : ℕ) → r .refusal ≡ k → (k ≡ 0) ⊎ (k ≡ 4) ⊎ (k ≡ 5) ⊎ (k ≡ 6) ⊎ (k ≡ 8)

@@ -11,6 +11,7 @@ use lib.Count.{ones}
 use lib.Dec.{ltb}
 use borrow.Author.Tests.{lt-leb, ltb-false}
 use Rattle.laws.specs.Lists.{part}
+use Rattle.laws.proofs.TestLaws.{or-none}
 use Rattle.numbers.specs.Numbers.{encode, decode}
 use Rattle.numbers.proofs.RoundTrip.{encode-decode}
 use Rattle.tables.specs.declared.Catalogue.{Catalogue}
@@ -35,7 +36,7 @@ use Rattle.image.specs.RoundTrip.{front, trimmed, found}
 use Rattle.loader.proofs.LoadLaws.{GoodTable, good-table}
 use Rattle.writer.proofs.AcceptLaws.{cells-none, cells-more}
 use Rattle.loader.proofs.ReadingLaws.{number-was, run-was, run-add, rows-was, rows-run, row-cells}
-use Rattle.image.proofs.ThereLaws.{part-stands, or-clear, one-byte, table-codes}
+use Rattle.image.proofs.ThereLaws.{part-stands, one-byte, table-codes}
 
 -- ---- an answer that is no refusal came by the way that goes on
 
@@ -300,7 +301,7 @@ record FieldBack (s : List ℕ) (i low high x n : ℕ) : Type 0 where
 
 inside-was : (low high x : ℕ) → outside low high x ≡ false → (low ≤ x) × (x ≤ high)
 inside-was low high x e =
-    let c = or-clear (ltb x low) (ltb high x) e in
+    let c = or-none (ltb x low) (ltb high x) e in
     (ltb-false x low (c .0), ltb-false high x (c .1))
 
 field-back : (s : List ℕ) → ((k : ℕ) → getD s k 0 < 256) → (i low high f x n : ℕ) → high < 128 → fieldAt s i low high f ≡ Value x n → FieldBack s i low high x n

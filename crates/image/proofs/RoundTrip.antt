@@ -1,10 +1,10 @@
 -- The two round trips of the image format: loading what was written gives the same tables, and writing what was loaded gives the same bytes.
 -- Each is carried by its own file of laws, ThereLaws and BackLaws. Assumes nothing.
-use Prim.Native.Nat.{ℕ, zero, suc, _<_, _≤_}
+use Prim.Native.Nat.{ℕ, zero, suc, _-_, _<_, _≤_}
 use native.Mathlib.Omega.{arith}
 use mathlib.Core.Path.{_≡_, refl, sym, ap, _∙_}
 use mathlib.Core.List.{List, _++_}
-use lib.ListN.{length, getD, take, drop}
+use lib.ListN.{length, getD, take, drop, replicate, length-take, take-append-drop, List·getD-append}
 use lib.Seq.{take-at}
 use borrow.Author.Tests.{le-ltb}
 use Rattle.laws.specs.Lists.{put}
@@ -12,9 +12,10 @@ use Rattle.laws.proofs.ListLaws.{length-put}
 use Rattle.numbers.specs.Numbers.{encode}
 use Rattle.tables.specs.declared.Catalogue.{Catalogue}
 use Rattle.tables.specs.Sizes.{mostTables, version}
-use Rattle.tables.specs.Catalogues.{firstCell}
+use Rattle.tables.specs.Catalogues.{schemeOf, countOf, firstCell, touch, touchingBelow, touchingOf, given, placeIn, maskIn}
 use Rattle.tables.specs.Checks.{firstOf, catalogueFault, Lawful}
 use Rattle.tables.proofs.CheckLaws.{first-none, first-clear, lawful-fault}
+use Rattle.tables.proofs.StoredLaws.{for-at}
 use Rattle.loader.specs.declared.Verdict.{Verdict}
 use Rattle.loader.specs.declared.Verdict.the-variants.{Good}
 use Rattle.loader.specs.declared.Loaded.{Loaded}
@@ -22,7 +23,7 @@ use Rattle.writer.specs.declared.Written.{Written}
 use Rattle.writer.specs.declared.Written.the-variants.{Length}
 use Rattle.loader.specs.Load.{firstTable, scanOf, tablesCodes, cellsAfter, Loads}
 use Rattle.writer.specs.Write.{tablesImage, imageOf, cellsFault, writeFault, Accepted, lengthFault, writtenOf, written, Writes}
-use Rattle.image.specs.RoundTrip.{trimmed, found, loadedCells}
+use Rattle.image.specs.RoundTrip.{front, trimmed, found, loadedCells}
 use Rattle.writer.proofs.AcceptLaws.{fault-accepted, accepted-fault}
 use Rattle.image.proofs.ThereLaws.{scan-there, codes-there}
 use Rattle.image.proofs.BackLaws.{ScanBack, scan-back, tables-fit, tables-back}
@@ -143,3 +144,40 @@ module _ (s lent after : List ℕ) (r : Loaded) (by : (k : ℕ) → getD s k 0 <
       let clear = accepted-fault (r .catalogue) after loads-accepted in
       let answer : w ≡ Length (length s) = h .answer ∙ written-clear (r .catalogue) after (length out) clear (rw image fits) ∙ rw image in
       (answer, h .bytes ∙ rw (answer, image))
+
+-- ---- trimmed
+
+-- The entries below n are the same,
+front-at : (n : ℕ) (l : List ℕ) (t : ℕ) → t < n → n ≤ length l → getD (front n l) t 0 ≡ getD l t 0
+unfolding front
+front-at n l t h k =
+    let b : t < length (take n l) = rw (length-take n l) (omega arith) in
+    List·getD-append (take n l) (replicate (mostTables - n) 0) 0 t b
+    ∙ sym (List·getD-append (take n l) (drop n l) 0 t b) ∙ ap (λ (x : List ℕ). getD x t 0) (take-append-drop n l)
+
+-- and so are the places and masks that a lawful catalogue stores there.
+module _ (cat : Catalogue) (lent : ℕ) (L : Lawful cat lent) (xs : length (cat .schemes) ≡ mostTables) (cs : length (cat .rows) ≡ mostTables) where
+  abbrev kept : Catalogue
+  kept = given (cat .m) (cat .n) (front (cat .n) (cat .schemes)) (front (cat .n) (cat .rows))
+
+  scheme-kept : (t : ℕ) → t < cat .n → schemeOf kept t ≡ schemeOf cat t
+  scheme-kept t h = front-at (cat .n) (cat .schemes) t h (omega (arith, L .tables))
+
+  count-kept : (t : ℕ) → t < cat .n → countOf kept t ≡ countOf cat t
+  count-kept t h = front-at (cat .n) (cat .rows) t h (omega (arith, L .tables))
+
+  first-kept : (t : ℕ) → t ≤ cat .n → firstCell kept t ≡ firstCell cat t
+  unfolding firstCell
+  first-kept zero h = refl
+  first-kept (suc t) h = rw (first-kept t (omega arith), scheme-kept t (omega arith), count-kept t (omega arith)) refl
+
+  touching-kept : (t k : ℕ) → t < cat .n → k ≤ cat .n → touchingBelow kept t k ≡ touchingBelow cat t k
+  unfolding touchingBelow touch
+  touching-kept t zero h l = refl
+  touching-kept t (suc k) h l = rw (touching-kept t k h (omega arith), scheme-kept t h, scheme-kept k (omega arith)) refl
+
+  pub trimmed-stored : (t : ℕ) → t < cat .n → (placeIn (trimmed cat) t ≡ placeIn cat t) × (maskIn (trimmed cat) t ≡ maskIn cat t)
+  trimmed-stored t h = (
+    for-at (cat .n) (firstCell kept) t h (L .tables) ∙ first-kept t (omega arith) ∙ sym (L .places t h),
+    for-at (cat .n) (touchingOf kept) t h (L .tables) ∙ touching-kept t (cat .n) h (omega arith) ∙ sym (L .touching t h),
+  )
