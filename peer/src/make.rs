@@ -387,8 +387,8 @@ pub fn spoil(random: &mut Random, words: &mut [u64], refusal: u64) {
             let above = 1u64 << words[0].min(63);
             words[SCHEMES + table] = random.pick(&[0, above, words[SCHEMES + table] | above, 1 << 63, u64::MAX]);
         }
-        16 => stored::spoil(random, words),
         6 => words[ROWS + table] = random.pick(&[256, 257, 511, 512, 65_535, 65_536, 65_537, 1 << 32, 1 << 63, u64::MAX]),
+        16 => stored::spoil(random, words),
         _ => {}
     }
 }

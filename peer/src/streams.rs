@@ -456,7 +456,8 @@ pub fn compare(cases: u64, seed: u64, least: u64) -> bool {
     tally.table("open_holding", &OPEN_HOLDING, least);
     tally.table("next_holding", &next, least);
     tally.table("covers", &COVERS, least);
-    let later: [(&str, &[&str]); 4] = [("open", &["12"]), ("next", &["11", "12", "13", "14"]), ("open_holding", &["12", "19"]), ("next_holding", &["11", "12", "13", "14"])];
+    let at_work = ["11", "12", "13", "14"];
+    let later: [(&str, &[&str]); 4] = [("open", &["12"]), ("next", &at_work), ("open_holding", &["12", "19"]), ("next_holding", &at_work)];
     for (call, later) in later {
         stored::tables_of(&mut tally, call, later, least);
     }
