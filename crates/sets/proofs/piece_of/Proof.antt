@@ -124,7 +124,11 @@ returns : tie.Need-returns Inv-loop μ-loop
 returns c cells =
     let l = c .before .before in
     let s = start l in
-    rw (← s .pre .3, ← join-end _ _ (s .pre .0) (setOf (s .args .t1) (s .args .all .key)) (long s) _ (there s) refl _ _ (l .loop .inv) (c .before .loop-test .left) cells)
+    rw (
+      ← s .pre .3,
+      ← join-end _ _ (s .pre .0) (setOf (s .args .t1) (s .args .all .key)) (long s) _ (there s) refl _ _ (l .loop .inv)
+          (c .before .loop-test .left) cells,
+    )
     (c .without .ensures _ _ (s .pre .2) (under l))
 
 pub piece-of-spec : {M : Type 1} → statement M
