@@ -170,6 +170,9 @@ merge-add-requires c κs =
       l .loop .inv .0 .merged .long,
     )
 
+mul-reach : tie.Need-mul-reach Inv-loop μ-loop
+mul-reach c = omega (arith, eight (low (c .before .before .before)))
+
 element-copy-out-reach : tie.Need-element-copy-out-reach Inv-loop μ-loop
 element-copy-out-reach c = omega (arith, eight (low (c .before .before .before)))
 
@@ -299,6 +302,7 @@ extended-spec =
     first-fit-requires
     add-merge-add
     merge-add-requires
+    mul-reach
     element-copy-out-reach
     cast-reach
     add-with-row

@@ -88,6 +88,9 @@ merge-add-requires c κs =
       refl,
     )
 
+mul-rest : tie.Need-mul-rest Inv-loop μ-loop
+mul-rest c = search needs
+
 element-copy-out-rest : tie.Need-element-copy-out-rest Inv-loop μ-loop
 element-copy-out-rest c = search needs
 
@@ -244,6 +247,7 @@ parted-spec =
     mul-merge-add
     element-copy-out-merge-add
     merge-add-requires
+    mul-rest
     element-copy-out-rest
     cast-rest
     loop-holds
