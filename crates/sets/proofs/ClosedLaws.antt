@@ -136,7 +136,8 @@ module _ (cat : Catalogue) (cells : List ℕ) (key : ℕ) where
           f
 
     -- A table that is not both live and in reach has no row that the row test admits.
-    pub closed-test : (lent : ℕ) → Lawful cat lent → (reach : ℕ) → Reach cat (at (setOf cat key)) reach → (u : ℕ) → u < cat .n → bitOf (bitAnd live reach) u ≡ false
+    pub closed-test : (lent : ℕ) → Lawful cat lent → (reach : ℕ) → Reach cat (at (setOf cat key)) reach → (u : ℕ) → u < cat .n
+        → bitOf (bitAnd live reach) u ≡ false
         → NoneIn (countOf cat u) (tested cat cells key u)
     closed-test lent L reach R u l h i b =
         ⊎-elim

@@ -80,9 +80,11 @@ module _ (W : Tables) (T : List ℕ) (s : Place) where
 
 -- The merged row of one row, as the code makes it.
 pub merged-one : (cat : Catalogue) (cells : List ℕ) (lent : ℕ) → Lawful cat lent → (t r mask : ℕ) (codes codes′ : List ℕ) → There cat t r
-    → length codes ≡ mergedLength → Added cells (schemeOf cat t) (rowIn (placeIn cat t) (schemeOf cat t) (r - 1)) 0 codes codes′ mask → Merged cat cells (only t r) codes′ mask
+    → length codes ≡ mergedLength → Added cells (schemeOf cat t) (rowIn (placeIn cat t) (schemeOf cat t) (r - 1)) 0 codes codes′ mask
+    → Merged cat cells (only t r) codes′ mask
 merged-one cat cells lent L t r mask codes codes′ h l A =
-    merged-add cat cells lent L (λ u. 0) (only t r) t r (h .table) (only-more t r (h .low)) codes codes′ 0 mask (merged-none cat cells (λ u. 0) codes l (λ u. refl))
+    merged-add cat cells lent L (λ u. 0) (only t r) t r (h .table) (only-more t r (h .low)) codes codes′ 0 mask
+    (merged-none cat cells (λ u. 0) codes l (λ u. refl))
     (rw (← start-of cat t r (placeIn cat t) (L .places t (h .table))) A)
 
 -- A row is consistent with row r of table t where it has the codes of its merged row.
@@ -113,7 +115,8 @@ pub record Parting (cat : Catalogue) (cells : List ℕ) (T : List ℕ) (s : Plac
   pub asked : (u : ℕ) → bitOf rest u ≡ false → bitOf gone u ≡ parts (worldOf cat cells) T s u
   pub todo : (u : ℕ) → bitOf rest u ≡ true → bitOf gone u ≡ false
 
-module _ (cat : Catalogue) (cells : List ℕ) (lent : ℕ) (L : Lawful cat lent) (T : List ℕ) (long : length T ≡ cat .n) (s : Place) (h : There cat (s .table) (s .row))
+module _ (cat : Catalogue) (cells : List ℕ) (lent : ℕ) (L : Lawful cat lent) (T : List ℕ) (long : length T ≡ cat .n) (s : Place)
+    (h : There cat (s .table) (s .row))
     (tables : ℕ) (M : TablesOf T tables) where
   -- The tables that are asked: those of the set that touch that of s.
   abbrev near : ℕ
@@ -204,13 +207,15 @@ module _ (cat : Catalogue) (cells : List ℕ) (lent : ℕ) (L : Lawful cat lent)
 
     pub gone-dropped : dropped (worldOf cat cells) T s ≡ lacking (addRow T s) gone
     gone-dropped =
-        lacking-by (addRow T s) gone (dropped (worldOf cat cells) T s) (dropped-long (worldOf cat cells) T s ∙ sym long ∙ sym (length-set T (s .table) (s .row)))
+        lacking-by (addRow T s) gone (dropped (worldOf cat cells) T s)
+        (dropped-long (worldOf cat cells) T s ∙ sym long ∙ sym (length-set T (s .table) (s .row)))
         (λ u l.
         dropped-parts (worldOf cat cells) T s long (h .table) u (rw (← long, ← length-set T (s .table) (s .row)) l)
         ∙ rw (G u))
 
 -- The set with the row that comes in.
-pub added-set : (cat : Catalogue) (lent : ℕ) → Lawful cat lent → (key tables : ℕ) → Named cat key → TablesOf (setOf cat key) tables → (s : Place) → There cat (s .table) (s .row)
+pub added-set : (cat : Catalogue) (lent : ℕ) → Lawful cat lent → (key tables : ℕ) → Named cat key → TablesOf (setOf cat key) tables → (s : Place)
+    → There cat (s .table) (s .row)
     → (key′ x : ℕ) → key′ ≡ withRow bitsPerRow key (s .table) (s .row) → x ≡ 2 ^ (s .table)
     → SetFor cat (addRow (setOf cat key) s) (record { key = key′; tables = bitOr tables x })
 added-set cat lent L key tables N M s h key′ x e f =

@@ -83,7 +83,8 @@ module _ (cat : Catalogue) (lent : ℕ) (L : Lawful cat lent) (D : List ℕ) (lo
       pub join-near : (cells : List ℕ) → joins (worldOf cat cells) (lacking D left) (rowIn D u) ≡ bitOf reach u
       join-near cells =
           iff-eq (joins (worldOf cat cells) (lacking D left) (rowIn D u)) (bitOf reach u)
-          (λ y. sym nearby ∙ near-iff (worldOf cat cells) (lacking D left) (rowIn D u) long-part .1 (joins-iff (worldOf cat cells) (lacking D left) (rowIn D u) long-part .0 y .near))
+          (λ y. sym nearby ∙ near-iff (worldOf cat cells) (lacking D left) (rowIn D u) long-part .1
+          (joins-iff (worldOf cat cells) (lacking D left) (rowIn D u) long-part .0 y .near))
           (λ y.
           joins-iff (worldOf cat cells) (lacking D left) (rowIn D u) long-part .1
           (record { absent = lacking-out D left u b; near = near-iff (worldOf cat cells) (lacking D left) (rowIn D u) long-part .0 (nearby ∙ y) }))
@@ -100,10 +101,12 @@ module _ (cat : Catalogue) (lent : ℕ) (L : Lawful cat lent) (D : List ℕ) (lo
         (record {
           within = λ v c. J .within v (without-under left u (x .0) v c);
           touched =
-              gathered-add (λ v. maskIn cat v) (at (lacking D left)) (at (lacking D (left - 2 ^ u))) reach u (at D u) (lacking-more D left u (x .0) (at D u) refl m) (J .touched);
+              gathered-add (λ v. maskIn cat v) (at (lacking D left)) (at (lacking D (left - 2 ^ u))) reach u (at D u)
+              (lacking-more D left u (x .0) (at D u) refl m) (J .touched);
           share = λ cells.
               rw (← lacking-set D left u (x .0) (rw long (there u (x .0))))
-              (part-step (worldOf cat cells) (world-symmetric cat cells) D s (lacking D left) u (J .share cells) (there u (x .0)) (join-near u (x .0) cells ∙ x .1));
+              (part-step (worldOf cat cells) (world-symmetric cat cells) D s (lacking D left) u (J .share cells) (there u (x .0))
+              (join-near u (x .0) cells ∙ x .1));
         })
 
     -- None does.

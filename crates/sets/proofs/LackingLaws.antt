@@ -171,5 +171,6 @@ tables-less T mask gone M h u = bit-less mask gone h u ∙ go (which (bitOf gone
 
     go : (bitOf gone u ≡ true) ⊎ (bitOf gone u ≡ false) → (bitOf mask u && not (bitOf gone u)) ≡ member (lacking T gone) u
     go (inl e) =
-        rw e (none (bitOf mask u) ∙ sym (not-yes (member (lacking T gone) u) (λ y. absurd (omega (arith, member-iff (lacking T gone) u .0 y, lacking-out T gone u e)))))
+        rw e (none (bitOf mask u) ∙ sym
+        (not-yes (member (lacking T gone) u) (λ y. absurd (omega (arith, member-iff (lacking T gone) u .0 y, lacking-out T gone u e)))))
     go (inr e) = rw e (and-yes (bitOf mask u) ∙ M u ∙ sym (member-same (lacking T gone) T u (lacking-in T gone u e)))

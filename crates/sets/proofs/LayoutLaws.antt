@@ -54,6 +54,7 @@ module _ (cat : Catalogue) (cells : List ℕ) where
   pub rising-none : RisingIn cat cells 0
   rising-none t l h = absurd (clash h (zero-bit t))
 
-  pub rising-more : (t mask k : ℕ) → RisingIn cat cells mask → k ≡ 2 ^ t → Rising cells (firstCell cat t) (ones (schemeOf cat t)) (countOf cat t) → RisingIn cat cells (bitOr mask k)
+  pub rising-more : (t mask k : ℕ) → RisingIn cat cells mask → k ≡ 2 ^ t → Rising cells (firstCell cat t) (ones (schemeOf cat t)) (countOf cat t)
+      → RisingIn cat cells (bitOr mask k)
   rising-more t mask k h e r u l b =
       ⊎-elim (λ q. h u l q) (λ q. let z : u ≡ t = eqb-true u t (rw (e, one-is t u) at q) in rw z r) (or-case (bitOf mask u) (bitOf k u) (rw (bit-or mask k u) at b))

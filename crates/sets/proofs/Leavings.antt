@@ -36,7 +36,8 @@ module _ (cat : Catalogue) (T : List ℕ) (held : RowSet) (S : SetFor cat T held
       }
 
   module _ (h : Under mask (held .tables)) (key rest : ℕ) (K : Leaving cat T mask key rest) where
-    pub leaving-next : (u : ℕ) → bitOf mask u ≡ true → bitOf rest u ≡ true → (key′ : ℕ) → key′ ≡ withRow bitsPerRow key u 0 → Leaving cat T mask key′ (rest - 2 ^ u)
+    pub leaving-next : (u : ℕ) → bitOf mask u ≡ true → bitOf rest u ≡ true → (key′ : ℕ) → key′ ≡ withRow bitsPerRow key u 0
+        → Leaving cat T mask key′ (rest - 2 ^ u)
     leaving-next u a b key′ e =
         rw e
         (record {

@@ -77,7 +77,8 @@ module _ (cat : Catalogue) (cells : List ℕ) where
             let q : rowsBefore cat t + (j - rowsBefore cat t) ≡ j = omega arith in
             rw (← q, place-of t (j - rowsBefore cat t) l (omega arith)) (h (j - rowsBefore cat t) (omega arith))
 
-    module _ (t c i : ℕ) (l : t < cat .n) (p : Passed cat cells T t c) (f : FirstIn (countOf cat t) (λ q. rowTest W T (record { table = t; row = suc q })) i) where
+    module _ (t c i : ℕ) (l : t < cat .n) (p : Passed cat cells T t c)
+        (f : FirstIn (countOf cat t) (λ q. rowTest W T (record { table = t; row = suc q })) i) where
       pub passed-next : countOf cat t ≤ i → (c′ : ℕ) → c′ ≡ c + countOf cat t → Passed cat cells T (t + 1) c′
       passed-next b c′ more =
           record {
@@ -90,11 +91,13 @@ module _ (cat : Catalogue) (cells : List ℕ) where
       round-hit b =
           let here = place-of t i l b in
           let n : suc (rowsBefore cat t + i) ≡ c + suc i = omega (arith, p .count) in
-          walk-hit (rowTest W T) (rows W) none (rowsBefore cat t + i) (place-inside t i l b) (clear-more t c i l (f .within) p (f .before)) (rw here (f .found b))
+          walk-hit (rowTest W T) (rows W) none (rowsBefore cat t + i) (place-inside t i l b) (clear-more t c i l (f .within) p (f .before))
+          (rw here (f .found b))
           ∙ ap₂ (λ (x : ℕ) (y : Place). hit x y) n here
 
     -- Where no table below t has a row that may be added.
-    pub passed-below : (t : ℕ) → t ≤ cat .n → ((u : ℕ) → u < t → NoneIn (countOf cat u) (λ q. rowTest W T (record { table = u; row = suc q }))) → Passed cat cells T t (rowsBefore cat t)
+    pub passed-below : (t : ℕ) → t ≤ cat .n → ((u : ℕ) → u < t → NoneIn (countOf cat u) (λ q. rowTest W T (record { table = u; row = suc q })))
+        → Passed cat cells T t (rowsBefore cat t)
     unfolding rowsBefore
     passed-below zero b h = passed-none
     passed-below (suc t) b h =
@@ -103,10 +106,12 @@ module _ (cat : Catalogue) (cells : List ℕ) where
 
     pub round-miss : (c : ℕ) → Passed cat cells T (cat .n) c → walk (rowTest W T) (rows W) ≡ miss c
     round-miss c p =
-        walk-miss (rowTest W T) (rows W) none (λ j h. p .clear j (rw (rows-total cat cells) at h)) ∙ ap (λ (x : ℕ). miss x) (rows-total cat cells ∙ sym (p .count))
+        walk-miss (rowTest W T) (rows W) none (λ j h. p .clear j (rw (rows-total cat cells) at h)) ∙ ap (λ (x : ℕ). miss x)
+        (rows-total cat cells ∙ sym (p .count))
 
 -- The tables before the lowest that is live and in reach are passed, and all are where none is.
-module _ (cat : Catalogue) (cells : List ℕ) (lent : ℕ) (L : Lawful cat lent) (key live reach : ℕ) (S : Shut cat cells key live) (R : Reach cat (at (setOf cat key)) reach) where
+module _ (cat : Catalogue) (cells : List ℕ) (lent : ℕ) (L : Lawful cat lent) (key live reach : ℕ) (S : Shut cat cells key live)
+    (R : Reach cat (at (setOf cat key)) reach) where
   pub round-passed : (w t : ℕ) → t < cat .n → LowestBit w (bitAnd live reach) t → Passed cat cells (setOf cat key) t (rowsBefore cat t)
   round-passed w t b l =
       passed-below cat cells (setOf cat key) t (omega arith) (λ u d. closed-test cat cells key live S lent L reach R u (omega (arith, d)) (l .below u d))

@@ -16,7 +16,8 @@ use Rattle.rows.proofs.NamedLaws.{named-valid, valid-named, there-row}
 use Rattle.sets.specs.declared.RowSet.{RowSet}
 use Rattle.sets.specs.Promises.{TablesOf, SetFor, Comes}
 
-module _ (cat : Catalogue) (cells : List ℕ) (lent : ℕ) (L : Lawful cat lent) (key : ℕ) (N : Named cat key) (s : Place) (h : There cat (s .table) (s .row)) (all : RowSet)
+module _ (cat : Catalogue) (cells : List ℕ) (lent : ℕ) (L : Lawful cat lent) (key : ℕ) (N : Named cat key) (s : Place) (h : There cat (s .table) (s .row))
+    (all : RowSet)
     (K : SetFor cat (dropped (worldOf cat cells) (setOf cat key) s) all) where
   -- What is kept is a set of its own key.
   pub kept-own : SetFor cat (setOf cat (all .key)) all
@@ -43,6 +44,7 @@ module _ (cat : Catalogue) (cells : List ℕ) (lent : ℕ) (L : Lawful cat lent)
     pub start-tables : TablesOf (setOf cat (part .key)) (part .tables)
     start-tables = rw (P .rows) (P .tables)
 
-    pub tried : (to count : ℕ) → Comes cat (extension (worldOf cat cells) (setOf cat (part .key))) to count → Comes cat (trial (worldOf cat cells) (setOf cat key) s) to count
+    pub tried : (to count : ℕ) → Comes cat (extension (worldOf cat cells) (setOf cat (part .key))) to count
+        → Comes cat (trial (worldOf cat cells) (setOf cat key) s) to count
     unfolding trial
     tried to count X = subst (λ (T : List ℕ). Comes cat (extension (worldOf cat cells) T) to count) start-set X

@@ -45,7 +45,8 @@ abbrev walk : tie.After-lowest Inv-loop μ-loop → tie.At-loop Inv-loop μ-loop
 walk a = a .before .before
 
 -- the table is live and in reach
-both : (a : tie.After-lowest Inv-loop μ-loop) → (bitOf (walk a .loop .live) (a .lowest .result) ≡ true) × (bitOf (walk a .loop .reach) (a .lowest .result) ≡ true)
+both : (a : tie.After-lowest Inv-loop μ-loop)
+    → (bitOf (walk a .loop .live) (a .lowest .result) ≡ true) × (bitOf (walk a .loop .reach) (a .lowest .result) ≡ true)
 both a =
     let l = walk a in
     and-split _ _ (sym (bit-and (l .loop .live) (l .loop .reach) (a .lowest .result)) ∙ a .lowest .ensures .itself)
@@ -77,7 +78,8 @@ looked f =
     let a = low f in
     let l = walk a in
     let s = start l in
-    open-first (s .args .t1) (s .args .cells .now) _ _ (l .loop .inv .1) _ (s .pre .0) _ _ (both a .0) (both a .1) (l .loop .inv .2) _ _ (l .loop .inv .0 .merged) _ _
+    open-first (s .args .t1) (s .args .cells .now) _ _ (l .loop .inv .1) _ (s .pre .0) _ _ (both a .0) (both a .1) (l .loop .inv .2) _ _
+    (l .loop .inv .0 .merged) _ _
     (s .pre .0 .places _ (turn a)) (f .first-fit .ensures)
 
 -- a row that was found is there
@@ -168,6 +170,9 @@ merge-add-requires c κs =
       l .loop .inv .0 .merged .long,
     )
 
+mul-reach : tie.Need-mul-reach Inv-loop μ-loop
+mul-reach c = omega (arith, eight (low (c .before .before .before)))
+
 element-copy-out-reach : tie.Need-element-copy-out-reach Inv-loop μ-loop
 element-copy-out-reach c = omega (arith, eight (low (c .before .before .before)))
 
@@ -250,7 +255,8 @@ loop-again c =
     (λ w.
     rw (w .1, w .2, w .3, w .4, w .5) (
       v .0,
-      shut-walked (s .args .t1) (s .args .cells .now) _ _ (v .1) _ (s .pre .0) _ _ _ (v .2) (both a .0) (both a .1) (looked f) (omega (arith, w .0 .left)) _ (bit a),
+      shut-walked (s .args .t1) (s .args .cells .now) _ _ (v .1) _ (s .pre .0) _ _ _ (v .2) (both a .0) (both a .1) (looked f)
+          (omega (arith, w .0 .left)) _ (bit a),
       v .2,
     ))
     (c .if1 .came)
@@ -266,8 +272,10 @@ returns c =
     let l = c .before in
     let s = start l in
     let z : l .loop .tests + rowsBefore (s .args .t1) (s .args .t1 .n) ≡ l .loop .tests + s .args .t3 .total = omega (arith, s .pre .1 .all) in
-    subst (λ (x : ℕ). Comes (s .args .t1) (extension (worldOf (s .args .t1) (s .args .cells .now)) (setOf (s .args .t1) (s .args .from .key))) (l .loop .key) x) z
-    (growing-end _ _ _ (s .pre .0) _ (s .pre .2) _ _ _ _ _ (l .loop .inv .0) (round-over _ _ _ (s .pre .0) _ _ _ (l .loop .inv .1) (l .loop .inv .2) (c .loop-test .left)))
+    subst (λ (x : ℕ). Comes (s .args .t1) (extension (worldOf (s .args .t1) (s .args .cells .now)) (setOf (s .args .t1) (s .args .from .key)))
+    (l .loop .key) x) z
+    (growing-end _ _ _ (s .pre .0) _ (s .pre .2) _ _ _ _ _ (l .loop .inv .0)
+    (round-over _ _ _ (s .pre .0) _ _ _ (l .loop .inv .1) (l .loop .inv .2) (c .loop-test .left)))
 
 pub extended-spec : {M : Type 1} → statement M
 extended-spec =
@@ -294,6 +302,7 @@ extended-spec =
     first-fit-requires
     add-merge-add
     merge-add-requires
+    mul-reach
     element-copy-out-reach
     cast-reach
     add-with-row

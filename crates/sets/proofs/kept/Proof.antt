@@ -24,18 +24,22 @@ without-requires : tie.Need-without-requires
 without-requires c κs =
     let p = c .before .before in
     let s = p .before .before in
-    gone-few (s .args .cat) (s .args .cells .now) _ (s .pre .0) (setOf (s .args .cat) (s .args .held .key)) (in-length bitsPerRow _ _) (placeOf (s .args .x)) (s .pre .4) _ (s .pre .3) _ (p .parted .ensures)
+    gone-few (s .args .cat) (s .args .cells .now) _ (s .pre .0) (setOf (s .args .cat) (s .args .held .key)) (in-length bitsPerRow _ _)
+    (placeOf (s .args .x)) (s .pre .4) _ (s .pre .3) _ (p .parted .ensures)
 
 returns : tie.Need-returns
 returns c =
     let p = c .before .before .before in
     let s = p .before .before in
     let T = setOf (s .args .cat) (s .args .held .key) in
-    rw (gone-dropped (s .args .cat) (s .args .cells .now) _ (s .pre .0) T (in-length bitsPerRow _ _) (placeOf (s .args .x)) (s .pre .4) _ (s .pre .3) _ (p .parted .ensures))
+    rw (gone-dropped (s .args .cat) (s .args .cells .now) _ (s .pre .0) T (in-length bitsPerRow _ _) (placeOf (s .args .x)) (s .pre .4) _ (s .pre .3) _
+    (p .parted .ensures))
     (c .without .ensures _ _
-    (added-set (s .args .cat) _ (s .pre .0) (s .args .held .key) _ (s .pre .2) (s .pre .3) (placeOf (s .args .x)) (s .pre .4) _ _ (c .before .before .with-row .ensures)
+    (added-set (s .args .cat) _ (s .pre .0) (s .args .held .key) _ (s .pre .2) (s .pre .3) (placeOf (s .args .x)) (s .pre .4) _ _
+    (c .before .before .with-row .ensures)
     (one-shl _ (omega (arith, s .pre .4 .table, s .pre .0 .tables))))
-    (gone-under (s .args .cat) (s .args .cells .now) _ (s .pre .0) T (in-length bitsPerRow _ _) (placeOf (s .args .x)) (s .pre .4) _ (s .pre .3) _ (p .parted .ensures) _))
+    (gone-under (s .args .cat) (s .args .cells .now) _ (s .pre .0) T (in-length bitsPerRow _ _) (placeOf (s .args .x)) (s .pre .4) _ (s .pre .3) _
+    (p .parted .ensures) _))
 
 pub kept-spec : {M : Type 1} → statement M
 kept-spec = tie.close (tie.spec parted-requires with-row-requires shl-t11 without-requires returns)

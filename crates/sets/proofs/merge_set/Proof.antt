@@ -115,6 +115,9 @@ merge-add-requires c κs =
       a .before .before .loop .inv .1 .long,
     )
 
+mul-reach : tie.Need-mul-reach Inv-loop μ-loop
+mul-reach c = omega (arith, eight (low (c .before .before .before)))
+
 element-copy-out-reach : tie.Need-element-copy-out-reach Inv-loop μ-loop
 element-copy-out-reach c = omega (arith, eight (low (c .before .before .before)))
 
@@ -170,6 +173,7 @@ merge-set-spec =
     mul-merge-add
     element-copy-out-merge-add
     merge-add-requires
+    mul-reach
     element-copy-out-reach
     cast-reach
     without-lowest-requires

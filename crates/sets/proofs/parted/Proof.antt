@@ -88,6 +88,9 @@ merge-add-requires c κs =
       refl,
     )
 
+mul-rest : tie.Need-mul-rest Inv-loop μ-loop
+mul-rest c = search needs
+
 element-copy-out-rest : tie.Need-element-copy-out-rest Inv-loop μ-loop
 element-copy-out-rest c = search needs
 
@@ -103,7 +106,8 @@ lowest-requires : tie.Need-lowest-requires Inv-loop μ-loop
 lowest-requires c κs = omega (arith, c .loop-test .taken)
 
 -- the table that is asked is one of the set's, and there
-near : (a : tie.After-lowest Inv-loop μ-loop) → bitOf (bitAnd (begin a .args .held .tables) (maskIn (begin a .args .t1) (begin a .args .x .table))) (a .lowest .result) ≡ true
+near : (a : tie.After-lowest Inv-loop μ-loop)
+    → bitOf (bitAnd (begin a .args .held .tables) (maskIn (begin a .args .t1) (begin a .args .x .table))) (a .lowest .result) ≡ true
 near a = walk a .loop .inv .under _ (a .lowest .ensures .itself)
 
 turn : (a : tie.After-lowest Inv-loop μ-loop) → a .lowest .result < begin a .args .t1 .n
@@ -212,11 +216,13 @@ loop-again c =
     (⊎-elim
     (λ w.
     rw (w .1)
-    (parting-goes _ _ _ (s .pre .0) (set-of s) (long s) (placeOf (s .args .x)) (s .pre .4) _ (s .pre .3) _ _ (l .loop .inv) _ (a .lowest .ensures .itself) _ _ m _ e
+    (parting-goes _ _ _ (s .pre .0) (set-of s) (long s) (placeOf (s .args .x)) (s .pre .4) _ (s .pre .3) _ _ (l .loop .inv) _
+    (a .lowest .ensures .itself) _ _ m _ e
     (ap not (sym (f .row-fits .ensures)) ∙ w .0 .taken) _ (bit a)))
     (λ w.
     rw (w .1)
-    (parting-stays _ _ _ (s .pre .0) (set-of s) (long s) (placeOf (s .args .x)) (s .pre .4) _ (s .pre .3) _ _ (l .loop .inv) _ (a .lowest .ensures .itself) _ _ m _ e
+    (parting-stays _ _ _ (s .pre .0) (set-of s) (long s) (placeOf (s .args .x)) (s .pre .4) _ (s .pre .3) _ _ (l .loop .inv) _
+    (a .lowest .ensures .itself) _ _ m _ e
     (ap not (sym (f .row-fits .ensures)) ∙ w .0 .left)))
     (c .before .if1 .came))
 
@@ -224,7 +230,8 @@ returns : tie.Need-returns Inv-loop μ-loop
 returns c =
     let l = c .before in
     let s = start (alone l) in
-    parting-end (s .args .t1) (s .args .cells .now) _ (s .pre .0) (set-of s) (long s) (placeOf (s .args .x)) (s .pre .4) _ (s .pre .3) _ (rw (c .loop-test .left) at (l .loop .inv))
+    parting-end (s .args .t1) (s .args .cells .now) _ (s .pre .0) (set-of s) (long s) (placeOf (s .args .x)) (s .pre .4) _ (s .pre .3) _
+    (rw (c .loop-test .left) at (l .loop .inv))
 
 pub parted-spec : {M : Type 1} → statement M
 parted-spec =
@@ -240,6 +247,7 @@ parted-spec =
     mul-merge-add
     element-copy-out-merge-add
     merge-add-requires
+    mul-rest
     element-copy-out-rest
     cast-rest
     loop-holds

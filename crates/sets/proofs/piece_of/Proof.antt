@@ -52,6 +52,9 @@ shl-left c = omega (arith, c .pre .1 .table, c .pre .0 .tables)
 sub-left : tie.Need-sub-left Inv-loop μ-loop
 sub-left c = rw (bit (c .before)) (less-bit _ _ (has (c .before)) .0)
 
+mul-reach : tie.Need-mul-reach Inv-loop μ-loop
+mul-reach c = search needs
+
 element-copy-out-reach : tie.Need-element-copy-out-reach Inv-loop μ-loop
 element-copy-out-reach c = search needs
 
@@ -91,6 +94,9 @@ shl-left-2 c = omega (arith, turn c, start (walk c) .pre .0 .tables)
 sub-left-2 : tie.Need-sub-left-2 Inv-loop μ-loop
 sub-left-2 c = rw (bit-2 c) (less-bit _ _ (left c) .0)
 
+mul-reach-2 : tie.Need-mul-reach-2 Inv-loop μ-loop
+mul-reach-2 c = omega (arith, turn c, start (walk c) .pre .0 .tables)
+
 element-copy-out-reach-2 : tie.Need-element-copy-out-reach-2 Inv-loop μ-loop
 element-copy-out-reach-2 c = omega (arith, turn c, start (walk c) .pre .0 .tables)
 
@@ -124,7 +130,11 @@ returns : tie.Need-returns Inv-loop μ-loop
 returns c cells =
     let l = c .before .before in
     let s = start l in
-    rw (← s .pre .3, ← join-end _ _ (s .pre .0) (setOf (s .args .t1) (s .args .all .key)) (long s) _ (there s) refl _ _ (l .loop .inv) (c .before .loop-test .left) cells)
+    rw (
+      ← s .pre .3,
+      ← join-end _ _ (s .pre .0) (setOf (s .args .t1) (s .args .all .key)) (long s) _ (there s) refl _ _ (l .loop .inv)
+          (c .before .loop-test .left) cells,
+    )
     (c .without .ensures _ _ (s .pre .2) (under l))
 
 pub piece-of-spec : {M : Type 1} → statement M
@@ -135,12 +145,14 @@ piece-of-spec =
     μ-loop
     shl-left
     sub-left
+    mul-reach
     element-copy-out-reach
     cast-reach
     loop-holds
     lowest-requires
     shl-left-2
     sub-left-2
+    mul-reach-2
     element-copy-out-reach-2
     cast-reach-2
     loop-less
