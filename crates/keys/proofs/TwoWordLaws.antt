@@ -263,13 +263,13 @@ number-words k = joined-words bitsInLow bitsPerWord k
 -- The words of a set's key are its two parts, and have room in a machine word.
 pub key-words : (k : ℕ) → k < 2 ^ (bitsPerRow * mostTables) → (lowOf k ≡ k % 2 ^ bitsInLow) × (highOf k ≡ k / 2 ^ bitsInLow)
 key-words k h =
-    let wide : k < 2 ^ (bitsPerWord + bitsInLow) = lt-of-lt-of-le h (pow-mono (omega arith)) in
+    let wide : k < 2 ^ (bitsPerWord + bitsInLow) = lt-of-lt-of-le h (pow-mono {i = bitsPerRow * mostTables} {j = bitsPerWord + bitsInLow} (omega arith)) in
     (first-plain bitsInLow bitsPerWord k wide, second-plain bitsInLow bitsPerWord k wide)
 
 pub key-fits : (k : ℕ) → k < 2 ^ (bitsPerRow * mostTables) → (lowOf k < 2 ^ bitsPerWord) × (highOf k < 2 ^ bitsPerWord)
 unfolding secondWord
 key-fits k h = (
-  rw (key-words k h .0) (lt-of-lt-of-le (mod-lt k (pow-pos bitsInLow)) (pow-mono (omega arith))),
+  rw (key-words k h .0) (lt-of-lt-of-le (mod-lt k (pow-pos bitsInLow)) (pow-mono {i = bitsInLow} {j = bitsPerWord} (omega arith))),
   mod-lt (k / 2 ^ bitsInLow) (pow-pos bitsPerWord),
 )
 

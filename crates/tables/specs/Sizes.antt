@@ -17,6 +17,10 @@ mostRows = 255
 abbrev pub mostCells : ℕ
 mostCells = 8192
 
+-- "The cell limit stays, so N is now at most 8,192" (#110): a row has a cell.
+abbrev pub mostTotal : ℕ
+mostTotal = mostCells
+
 -- "version (1)": the first number of an image.
 abbrev pub version : ℕ
 version = 1
