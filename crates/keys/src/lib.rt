@@ -5,7 +5,7 @@ ghost use Prim.Native.Nat.{_*_, _<_, _≤_, _^_};
 ghost use lib.Dec.{eqb, leb};
 ghost use Rattle.words.specs.Words.{bitOf};
 ghost use Rattle.keys.specs.Keys.{bitsPerRow, mostTables, rowOf, withRow};
-ghost use Rattle.keys.specs.TwoWords.{tablesInLow, numberOf};
+ghost use Rattle.keys.specs.TwoWords.{tablesInLow, numberIn, lowOf, highOf, numberOf};
 
 // The two words of a key, the first of them low.
 pub struct Key {
@@ -52,6 +52,38 @@ pub fn none() -> Key
     ensures { λ k. ⌜ numberOf k ≡ 0 ⌝ }
 {
     Key { low: 0, high: 0 }
+}
+
+// The first of two words.
+// Their number knows it.
+fn first(low: u64, high: u64) -> u64
+    ensures { λ r. ⌜ r ≡ lowOf (numberIn low high) ⌝ }
+{
+    low
+}
+
+// The second of two words.
+// Their number knows it too.
+fn second(low: u64, high: u64) -> u64
+    ensures { λ r. ⌜ r ≡ highOf (numberIn low high) ⌝ }
+{
+    high
+}
+
+// The first word of a key, said by its number.
+// What files a key, or hands it out word by word, takes its words by this and by `high_word`.
+pub fn low_word(key: Key) -> u64
+    ensures { λ r. ⌜ r ≡ lowOf (numberOf key) ⌝ }
+{
+    first(key.low, key.high)
+}
+
+// The second word of a key, said by its number.
+// See `low_word`.
+pub fn high_word(key: Key) -> u64
+    ensures { λ r. ⌜ r ≡ highOf (numberOf key) ⌝ }
+{
+    second(key.low, key.high)
 }
 
 // Whether two keys are the same, both words whole.
