@@ -21,10 +21,12 @@ const ROW_MASK: u64 = (1 << BITS_PER_ROW) - 1;
 
 // How many tables the first word has, and how many the second.
 const TABLES_IN_LOW: usize = 5;
+
 const TABLES_IN_HIGH: usize = 3;
 
 // How many bits of each word belong to a table; those above them are spare.
 const BITS_IN_LOW: usize = BITS_PER_ROW * TABLES_IN_LOW;
+
 const BITS_IN_HIGH: usize = BITS_PER_ROW * TABLES_IN_HIGH;
 
 // The row number that stands at place t of a word.

@@ -180,10 +180,10 @@ copy-added q r k p s c hp hq hr =
     word l m v i hl hm same h =
         ⊎-elim
         (λ (x : i ≡ q .found).
-            ap (λ (j : ℕ). getD (set m (r .found) v) j 0) (x ∙ sym e)
-            ∙ getD-set-same m (r .found) v 0 hm
-            ∙ sym (getD-set-same l (q .found) v 0 hl)
-            ∙ ap (λ (j : ℕ). getD (set l (q .found) v) j 0) (sym x))
+        ap (λ (j : ℕ). getD (set m (r .found) v) j 0) (x ∙ sym e)
+        ∙ getD-set-same m (r .found) v 0 hm
+        ∙ sym (getD-set-same l (q .found) v 0 hl)
+        ∙ ap (λ (j : ℕ). getD (set l (q .found) v) j 0) (sym x))
         (λ x. getD-set-other m (r .found) i v 0 (λ y. omega arith) ∙ same i x ∙ sym (getD-set-other l (q .found) i v 0 (λ y. omega arith)))
         (place i h)
 

@@ -52,7 +52,10 @@ pub fn room(low: &[u64], high: &[u64], left: &[u16], right: &[u16]) -> usize
     ensures { λ r. ⌜ r ≡ roomOf (length (now (low .entry))) (length (now (high .entry))) (length (now (left .entry))) (length (now (right .entry))) ⌝ }
 {
     least(
-        least(least(least(MOST_RECORDS, low.len()), high.len()), left.len()),
+        least(
+            least(least(MOST_RECORDS, low.len()), high.len()),
+            left.len(),
+        ),
         right.len(),
     )
 }
