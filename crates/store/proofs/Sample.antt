@@ -1,6 +1,6 @@
--- A worked store: the three keys of the sample, offered one after the other to four records of zeros, and searches of it at both sides of each edge.
--- All of it is by computing the definitions. Assumes nothing.
-use Prim.Native.Nat.{ℕ}
+-- A worked store: the three keys of the sample, offered one after the other to four records of zeros, and searches of it at both sides of each edge;
+-- then keys with a second word and with a spare bit. All of it is by computing the definitions. Assumes nothing.
+use Prim.Native.Nat.{ℕ, _+_, _^_}
 use mathlib.Core.Bool.{true}
 use mathlib.Core.List.{List, [], _∷_}
 use mathlib.Core.Path.{_≡_, refl}
@@ -60,3 +60,18 @@ none-free = refl
 still-known : answerOf (after three 3) (searchOf (after three 3) 33554434 deepest) ≡ Known 2
 unfolding joined firstWord secondWord walk searchOf bitOf linkOf filed named added storeAfter answerOf
 still-known = refl
+
+-- ---- the second word
+
+-- Row 1 of table 5, whose first word is 0, offered behind row 1 of table 0: its second word is filed, and its first bit leads left.
+second-filed : after (filed (storeIn zeros zeros zeros zeros 0) 1) (2 ^ 60) ≡ storeIn (1 ∷ 0 ∷ 0 ∷ 0 ∷ []) (0 ∷ 1 ∷ 0 ∷ 0 ∷ []) (2 ∷ 0 ∷ 0 ∷ 0 ∷ []) zeros 2
+unfolding joined firstWord secondWord walk searchOf bitOf linkOf filed named added storeAfter
+second-filed = refl
+
+-- A record with a spare bit is another key than the sought one, for a look compares both words whole; the search passes it by the sought key's bits.
+abbrev spoilt : Store
+spoilt = storeIn ((1 + 2 ^ 60) ∷ 1 ∷ []) (0 ∷ 0 ∷ []) (0 ∷ 0 ∷ []) (2 ∷ 0 ∷ []) 2
+
+spare-passed : searchOf spoilt 1 deepest ≡ Found 1 2
+unfolding joined firstWord secondWord walk searchOf bitOf linkOf
+spare-passed = refl

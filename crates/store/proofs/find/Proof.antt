@@ -1,7 +1,7 @@
 -- `store::find` meets its contract. The loop's invariant: what a search from here says is what the whole search says. The measure is what is left of
 -- the depth. Each way that a look can go has its law in LookLaws. Assumes nothing.
 use Prim.Native.Nat.{ℕ, _+_, _-_, _≤_, _<_}
-use mathlib.Core.Bool.{Bool, false}
+use mathlib.Core.Bool.{Bool, true, false}
 use mathlib.Core.List.{List}
 use mathlib.Core.Path.{_≡_, sym, ap, subst, _∙_}
 use native.Mathlib.Nat.{sub-zero}
@@ -43,6 +43,9 @@ deepest a = a .before .before .before .before .before .args .deepest
 abbrev link : Look → ℕ
 link a = linkOf (store a .left) (store a .right) (bitOf (sought a) (a .loop .d)) (a .loop .p)
 
+met : (c : tie.Then1 Inv-loop μ-loop) → eqb (keyAt (store (c .before .before)) (c .before .before .loop .p)) (sought (c .before .before)) ≡ true
+met c = sym (c .before .is-key .ensures) ∙ c .if1 .taken
+
 missed : (c : tie.Else1 Inv-loop μ-loop) → eqb (keyAt (store (c .before .before)) (c .before .before .loop .p)) (sought (c .before .before)) ≡ false
 missed c = sym (c .before .is-key .ensures) ∙ c .if1 .left
 
@@ -65,7 +68,7 @@ unfolding searchOf
 loop-holds c = (search needs, search needs, rw sub-zero)
 
 returns : tie.Need-returns Inv-loop μ-loop
-returns c = let a = c .before .before in sym (a .loop .inv .2 ∙ walk-hit _ _ _ _ _ _ _ (sym (c .before .is-key .ensures) ∙ c .if1 .taken))
+returns c = let a = c .before .before in sym (a .loop .inv .2 ∙ walk-hit _ _ _ _ _ _ _ (met c))
 
 returns-2 : tie.Need-returns-2 Inv-loop μ-loop
 returns-2 c =
