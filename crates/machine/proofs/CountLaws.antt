@@ -6,7 +6,6 @@ use mathlib.Core.Path.{_≡_, refl, ap}
 use mathlib.Core.Logic.{⊎-elim}
 use mathlib.Core.List.{List}
 use lib.ListN.{length}
-use Rattle.keys.specs.Keys.{bitsPerRow}
 use Rattle.tables.specs.Sizes.{mostTables, mostTotal}
 use Rattle.tables.specs.declared.Catalogue.{Catalogue}
 use Rattle.tables.specs.Catalogues.{total}
@@ -20,7 +19,7 @@ use Rattle.rows.specs.World.{worldOf}
 use Rattle.rows.proofs.WorldLaws.{rows-total, world-symmetric}
 use Rattle.rows.proofs.NamedLaws.{there-row}
 use Rattle.store.specs.Store.{storeIn}
-use Rattle.machine.specs.Machine.{State, deepest, finished, working, refused, Called, answer, piled, Askable, Fit, callFault, work, call, openFault, firstGrown, openingFor}
+use Rattle.machine.specs.Machine.{State, deepest, mostTests, mostLooks, finished, working, refused, Called, answer, piled, Askable, Fit, callFault, work, call, openFault, firstGrown, openingFor}
 use Rattle.machine.proofs.WorkLaws.{handing, by-ways}
 use Rattle.machine.proofs.RefusalLaws.{call-clear, call-refused, call-works, open-clear, opening-refused, opening-empty, opening-begun}
 use Rattle.machine.proofs.TrialLaws.{trial-fit}
@@ -33,12 +32,6 @@ pub record Few (cat : Catalogue) (b : ℕ) (q : State) (s : Called) : Type 0 whe
   pub looks : s .looks ≤ s .trials * (deepest cat + 1)
 
 -- No call comes near what a machine number holds: N is at most 8,192, a trial has at most 8 N row tests, and a search at most 97 looks.
-abbrev pub mostTests : ℕ
-mostTests = mostTables * mostTotal
-
-abbrev pub mostLooks : ℕ
-mostLooks = bitsPerRow * mostTables + 1
-
 pub record Small (s : Called) : Type 0 where
   pub trials : s .trials ≤ mostTotal
   pub tests : s .tests ≤ mostTotal * mostTests

@@ -8,6 +8,7 @@ use lib.ListN.{length}
 use lib.Dec.{ltb, eqb}
 use Rattle.laws.specs.Lists.{put}
 use Rattle.keys.specs.Keys.{bitsPerRow, keyOf}
+use Rattle.tables.specs.Sizes.{mostTables, mostTotal}
 use Rattle.tables.specs.declared.Catalogue.{Catalogue}
 use Rattle.tables.specs.Catalogues.{total}
 use Rattle.tables.specs.Checks.{firstOf, catalogueFault}
@@ -74,6 +75,13 @@ offeredIf b deepest q key tests = cond b (offered deepest q key tests) (done (ra
 -- "8n + 1 becomes 12n + 1" (#110): that look is the last one, and 12n bits turn a search.
 abbrev pub deepest : Catalogue → ℕ
 deepest cat = bitsPerRow * cat .n
+
+-- No trial has more row tests and looks, nor open more row tests: there are at most 8 tables and, since a row has a cell, 8,192 rows (#110).
+abbrev pub mostTests : ℕ
+mostTests = mostTables * mostTotal
+
+abbrev pub mostLooks : ℕ
+mostLooks = bitsPerRow * mostTables + 1
 
 module _ (cat : Catalogue) (cells : List ℕ) where
   -- The set that the trial at hand comes to, with its row tests: "the trial of the row at place next row (row order, from 0) on the set in record
