@@ -214,9 +214,9 @@ with-above w s a k u r h =
     let p = 2 ^ (w * u) in
     let wider : 2 ^ (w * (s + u)) ≡ p * b = ap (λ (x : ℕ). 2 ^ x) (mul-add w s u ∙ add-comm (w * s) (w * u)) ∙ pow-add 2 (w * u) (w * s) in
     let whole : (x : ℕ) → x * 2 ^ (w * (s + u)) ≡ x * p * b = λ x. ap (λ (y : ℕ). x * y) wider ∙ sym (mul-assoc x p b) in
-    let e : rowOf w n (s + u) ≡ rowOf w a u = row-shift w s a k u h in
+    let same = ap (λ (x : ℕ). x * p * b) (row-shift w s a k u h) in
     let f = ap (λ (x : ℕ). x * b) (with-sum w a u r) in
-    omega (arith, with-sum w n (s + u) r, whole (rowOf w n (s + u)), whole r, ap (λ (x : ℕ). x * p * b) e, f, add-mul (withRow w a u r) (rowOf w a u * p) b, add-mul a (r * p) b)
+    omega (arith, with-sum w n (s + u) r, whole (rowOf w n (s + u)), whole r, same, f, add-mul (withRow w a u r) (rowOf w a u * p) b, add-mul a (r * p) b)
 
 module _ (w s wide : ℕ) where
   pub row-first : (x y t : ℕ) → t < s → rowOf w (joined (w * s) wide x y) t ≡ rowOf w x t

@@ -195,7 +195,8 @@ module _ (cat : Catalogue) (cells : List ℕ) (a : Asked) (low high left right :
   opening-refused k e h = rw e (met k h)
     where
       met : (k : ℕ) → (k ≡ 0 → ⊥)
-          → unlessRefused k (zeros a low high left right) (begun cat cells a low high left right) ≡ record { refusal = k; after = zeros a low high left right; tests = 0 }
+          → unlessRefused k (zeros a low high left right) (begun cat cells a low high left right)
+          ≡ record { refusal = k; after = zeros a low high left right; tests = 0 }
       met zero h = absurd (h refl)
       met (suc k) h = refl
 

@@ -99,13 +99,17 @@ module _ (cat : Catalogue) (cells : List ℕ) where
       (k : key ≡ keyOf bitsPerRow (trialHad q .rows)) (t : tests ≡ trialHad q .tests)
       (r : Placed) (ks hs ls rs : List ℕ) (o : OfferPost (q .store) key (deepest cat) r ks hs ls rs) where
     by-placed : (a : Placed) → r ≡ a → trialOn cat cells q ≡ placed q tests a (storeIn ks hs ls rs (foundAfter (q .store .found) a))
-    by-placed a f = offer-trial q key tests r ks hs ls rs h e w k t o ∙ ap (λ (x : Placed). placed q tests x (storeIn ks hs ls rs (foundAfter (q .store .found) x))) f
+    by-placed a f =
+        offer-trial q key tests r ks hs ls rs h e w k t o
+        ∙ ap (λ (x : Placed). placed q tests x (storeIn ks hs ls rs (foundAfter (q .store .found) x))) f
 
-    pub trial-known : (n : ℕ) → r ≡ Known n → trialOn cat cells q ≡ done (stateFor (q .asked) ks hs ls rs (q .store .found) (q .taken) (q .next + 1)) tests n
+    pub trial-known : (n : ℕ) → r ≡ Known n
+        → trialOn cat cells q ≡ done (stateFor (q .asked) ks hs ls rs (q .store .found) (q .taken) (q .next + 1)) tests n
     unfolding placed
     trial-known n f = by-placed (Known n) f
 
-    pub trial-added : (n : ℕ) → r ≡ Added n → trialOn cat cells q ≡ done (stateFor (q .asked) ks hs ls rs (q .store .found + 1) (q .taken) (q .next + 1)) tests n
+    pub trial-added : (n : ℕ) → r ≡ Added n
+        → trialOn cat cells q ≡ done (stateFor (q .asked) ks hs ls rs (q .store .found + 1) (q .taken) (q .next + 1)) tests n
     unfolding placed
     trial-added n f = by-placed (Added n) f
 

@@ -90,7 +90,7 @@ module _ (l : List ℕ) (found p v : ℕ) (hp : p < found) (hf : found < length 
   named-other false q h m = getD-set-other l found q 0 0 (λ e. omega arith)
 
 -- The key of a filed record is the key that was filed.
-filed-key : (q : Store) (k : ℕ) → q .found < roomIn q → keyAt (filed q k) (q .found) ≡ k
+pub filed-key : (q : Store) (k : ℕ) → q .found < roomIn q → keyAt (filed q k) (q .found) ≡ k
 unfolding filed
 filed-key q k h =
     ap₂ numberIn (getD-set-same (q .low) (q .found) (lowOf k) 0 (omega arith)) (getD-set-same (q .high) (q .found) (highOf k) 0 (omega arith))
@@ -110,7 +110,8 @@ added-cells q k p s hp hr =
   where
     old-key : (i : ℕ) → i < q .found → keyAt (added q k p s) i ≡ keyAt q i
     old-key i l =
-        ap₂ numberIn (getD-set-other (q .low) (q .found) i (lowOf k) 0 (λ x. omega arith)) (getD-set-other (q .high) (q .found) i (highOf k) 0 (λ x. omega arith))
+        ap₂ numberIn (getD-set-other (q .low) (q .found) i (lowOf k) 0 (λ x. omega arith))
+        (getD-set-other (q .high) (q .found) i (highOf k) 0 (λ x. omega arith))
 
     hl : q .found < length (q .left)
     hl = omega arith
@@ -133,7 +134,8 @@ added-cells q k p s hp hr =
 
 -- ---- a copy
 
-copy-key : (q r : Store) → Copy q r → (p : ℕ) → p < q .found → keyAt r p ≡ keyAt q p
+-- A copy has the keys and the links of the store.
+pub copy-key : (q r : Store) → Copy q r → (p : ℕ) → p < q .found → keyAt r p ≡ keyAt q p
 copy-key q r c p l = ap₂ numberIn (c .low p l) (c .high p l)
 
 copy-link : (q r : Store) → Copy q r → (s : Bool) (p : ℕ) → p < q .found → linkAt r s p ≡ linkAt q s p

@@ -40,7 +40,8 @@ loop-again c =
     let s = c .before .before .before .before .before .before .before .before .args in
     let l = c .before .before .before .before .before .before .loop in
     let h = c .before .before .before .before .before .loop-test .taken in
-    run-next field field-few h (c .before .before .before .before .row-of .ensures ∙ sym (tab-at (s .n) (rowOf bitsPerRow (numberOf (s .key))) (l .t) h)) (l .inv) (c .before .before .put-field .ensures)
+    let e = c .before .before .before .before .row-of .ensures ∙ sym (tab-at (s .n) (rowOf bitsPerRow (numberOf (s .key))) (l .t) h) in
+    run-next field field-few h e (l .inv) (c .before .before .put-field .ensures)
 
 same-length : tie.Need-same-length Inv-loop μ-loop
 same-length c = c .before .loop .inv .same

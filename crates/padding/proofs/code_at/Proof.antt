@@ -32,7 +32,8 @@ code-of-requires c κs =
     let l = c .before .before .before .before in
     let s = l .before .before in
     let b : l .loop .t < s .args .cat .n = omega arith in
-    let g = gives-row (s .args .cat) (numberOf (s .args .key)) (s .args .a) (l .loop .t) b .0 (sym (c .before .before .table-gives .ensures) ∙ c .before .if1 .taken) in
+    let y = sym (c .before .before .table-gives .ensures) ∙ c .before .if1 .taken in
+    let g = gives-row (s .args .cat) (numberOf (s .args .key)) (s .args .a) (l .loop .t) b .0 y in
     let e = c .row-of .ensures in
     (s .pre .0, b, rw e (g .0), rw e (s .pre .1 .rows (l .loop .t) b), omega (arith, s .pre .0 .attributes), g .1)
 
@@ -59,7 +60,9 @@ loop-again c =
 returns-2 : tie.Need-returns-2 Inv-loop μ-loop
 returns-2 c =
     let s = c .before .before .before in
-    sym (code-null (s .args .cat) (numberOf (s .args .key)) (now (s .args .cells)) (s .args .a) (λ u b. c .before .loop .inv .1 u (omega (arith, c .loop-test .left))))
+    sym
+    (code-null (s .args .cat) (numberOf (s .args .key)) (now (s .args .cells)) (s .args .a)
+    (λ u b. c .before .loop .inv .1 u (omega (arith, c .loop-test .left))))
 
 pub code-at-spec : {M : Type 1} → statement M
 code-at-spec =

@@ -58,7 +58,8 @@ returns : tie.Need-returns Inv-loop μ-loop
 returns c =
     let l = c .before in
     let s = l .before .before .before in
-    sym (l .loop .inv .2 ∙ rw (pad-none (s .args .cat) (now (s .args .cells)) (numberOf (s .args .key)) (l .loop .a) (omega arith)) (put-nil (l .loop .padded) (l .loop .a)))
+    let e = pad-none (s .args .cat) (now (s .args .cells)) (numberOf (s .args .key)) (l .loop .a) (omega arith) in
+    sym (l .loop .inv .2 ∙ rw e (put-nil (l .loop .padded) (l .loop .a)))
 
 pub pad-spec : {M : Type 1} → statement M
 pad-spec =

@@ -29,7 +29,8 @@ returns-2 c =
     let r = c .before .before .before in
     let s = r .before in
     let p = r .row-of .ensures in
-    c .bit-of .ensures ∙ sym (gives-member (s .args .t1) (numberOf (s .args .key)) (s .args .a) (s .args .t) (s .pre .0) (omega (arith, p, c .before .before .if1 .left)))
+    c .bit-of .ensures
+    ∙ sym (gives-member (s .args .t1) (numberOf (s .args .key)) (s .args .a) (s .args .t) (s .pre .0) (omega (arith, p, c .before .before .if1 .left)))
 
 pub table-gives-spec : {M : Type 1} → statement M
 table-gives-spec =

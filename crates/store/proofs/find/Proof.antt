@@ -104,7 +104,8 @@ loop-again c =
     let w =
     a .loop .inv .2
     ∙ walk-on _ _ _ _ (deepest a - a .loop .d) (deepest a - (a .loop .d + 1)) _ _ (omega (arith, bits-left t)) (missed (t .before)) n u in
-    (subst (λ (x : ℕ). x - 1 < store a .found) (sym (linked l)) (one-less (link a) (store a .found) n u), search needs, w ∙ ap (λ (x : ℕ). walkIn (store a) (sought a) (deepest a - (a .loop .d + 1)) (a .loop .d + 1) (x - 1)) (sym (linked l)))
+    let e = ap (λ (x : ℕ). walkIn (store a) (sought a) (deepest a - (a .loop .d + 1)) (a .loop .d + 1) (x - 1)) (sym (linked l)) in
+    (subst (λ (x : ℕ). x - 1 < store a .found) (sym (linked l)) (one-less (link a) (store a .found) n u), search needs, w ∙ e)
 
 pub find-spec : {M : Type 1} → statement M
 find-spec =
