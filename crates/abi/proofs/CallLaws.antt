@@ -1,18 +1,24 @@
 -- What each call promises, one law for each way that its code goes. Assumes nothing.
-use Prim.Native.Nat.{ℕ}
+use Prim.Native.Nat.{ℕ, _≤_}
 use mathlib.Core.Path.{_≡_, ap, subst, _∙_}
 use mathlib.Core.Bool.{true, false}
 use mathlib.Core.List.{List}
-use lib.ListN.{set}
-use Rattle.laws.specs.Lists.{put}
+use lib.ListN.{length, getD, set}
+use lib.Dec.{ltb}
+use borrow.Author.Tests.{ltb-false}
+use Rattle.laws.specs.Lists.{put, part}
+use Rattle.laws.proofs.TestLaws.{or-none}
 use Rattle.tables.specs.declared.Catalogue.{Catalogue}
+use Rattle.tables.specs.declared.Made.{Made}
+use Rattle.tables.specs.Sizes.{mostTables}
+use Rattle.tables.specs.Checks.{Makes}
 use Rattle.loader.specs.declared.Loaded.{Loaded}
 use Rattle.writer.specs.declared.Written.{Written}
 use Rattle.loader.specs.Load.{firstTable, tablesCodes, cellsAfter, Loads}
 use Rattle.writer.specs.Write.{Writes}
 use Rattle.verdicts.specs.Number.{doorNumber, lookedIn}
-use Rattle.abi.specs.Words.{wordsOf, catalogueIn}
-use Rattle.abi.specs.Calls.{tooFewWords, short, LoadCall, writtenNumber, WriteCall}
+use Rattle.abi.specs.Words.{schemesAt, countsAt, catalogueWords, tableWords, wordsOf, shortsIn, catalogueIn}
+use Rattle.abi.specs.Calls.{tooFewWords, short, LoadCall, makeShort, madeIn, MakeCall, writtenNumber, WriteCall}
 
 module _ (image cells words looked : List ℕ) where
   pub load-short : short words ≡ true → LoadCall image cells words looked tooFewWords cells words looked
@@ -27,6 +33,25 @@ module _ (image cells words looked : List ℕ) where
         cells-after = rw e (l .cells ∙ ap (λ (x : Loaded). cellsAfter (x .verdict) (tablesCodes (x .catalogue .n) image firstTable) cells) (l .answer));
         words-after = rw e (w ∙ ap (λ (x : Loaded). put (wordsOf (x .catalogue)) words) (l .answer));
         looked-after = rw e (q ∙ ap (λ (x : ℕ). set looked 0 x) (h ∙ ap (λ (x : Loaded). lookedIn (x .verdict)) (l .answer)));
+      }
+
+module _ (given words : List ℕ) where
+  pub make-short : makeShort given words ≡ true → MakeCall given words tooFewWords words
+  make-short e = record { answer = rw e; words-after = rw e }
+
+  pub make-long : makeShort given words ≡ false → (tableWords ≤ length given) × (catalogueWords ≤ length words)
+  unfolding makeShort
+  make-long e =
+      let c = or-none (ltb (length given) tableWords) (short words) e in
+      (ltb-false (length given) tableWords (c .0), ltb-false (length words) catalogueWords (c .1))
+
+  pub make-done : (xs cs : List ℕ) (r : Made) (words′ : List ℕ) → makeShort given words ≡ false → xs ≡ part schemesAt mostTables given → cs ≡ shortsIn given countsAt
+      → Makes (getD given 0 0) (getD given 1 0) xs cs r → words′ ≡ put (wordsOf (r .catalogue)) words → MakeCall given words (r .refusal) words′
+  make-done xs cs r words′ e x c m w =
+      let q : r ≡ madeIn given = rw (x, c) at m in
+      record {
+        answer = rw e (ap (λ (y : Made). y .refusal) q);
+        words-after = rw e (w ∙ ap (λ (y : Made). put (wordsOf (y .catalogue)) words) q);
       }
 
 module _ (words cells out : List ℕ) where

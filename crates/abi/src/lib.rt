@@ -1,18 +1,31 @@
-// The library's calls for C and Rust: numbers and slices alone, a catalogue as 18 words.
+// The library's calls for C and Rust: numbers and slices alone, a catalogue as 34 words.
 ghost use mathlib.Core.Path.{_≡_};
 ghost use Prim.Native.Nat.{_+_, _≤_, _<_};
 ghost use lib.ListN.{length, getD, set};
 ghost use lib.Dec.{ltb};
-ghost use Rattle.laws.specs.Lists.{put};
-ghost use Rattle.abi.specs.Words.{catalogueWords, wordsOf, countIn, catalogueIn};
-ghost use Rattle.abi.specs.Calls.{LoadCall, WriteCall};
+ghost use Rattle.laws.specs.Lists.{put, part};
+ghost use Rattle.tables.specs.Sizes.{mostTables};
+ghost use Rattle.abi.specs.Words.{schemesAt, catalogueWords, wordsOf, shortIn, shortsIn, catalogueIn};
+ghost use Rattle.abi.specs.Calls.{makeShort, LoadCall, MakeCall, WriteCall};
 use tables::Catalogue;
 use writer::Written;
 
 pub mod lists;
 pub mod streams;
 
-// The word of a catalogue at a place: m, n, the eight schemes, the eight row counts.
+// The words of a catalogue: m, n, and eight each of schemes, row counts, places and masks.
+const CATALOGUE_WORDS: usize = 34;
+
+// How many of them say what the tables are, and where each eight of 16 bits begin.
+const TABLE_WORDS: usize = 18;
+
+const COUNTS_AT: usize = 10;
+
+const PLACES_AT: usize = 18;
+
+const MASKS_AT: usize = 26;
+
+// The word of a catalogue at a place: m, n, the eight schemes, the eight row counts, the eight places, the eight masks.
 // One function says the order, so that the copy is a single loop.
 fn word_of(cat: Catalogue, i: usize) -> u64
     requires { ⌜ i < catalogueWords ⌝ }
@@ -24,57 +37,89 @@ fn word_of(cat: Catalogue, i: usize) -> u64
     if i < 2 {
         return cat.n as u64;
     }
-    if i < 10 {
+    if i < COUNTS_AT {
         return cat.schemes[i - 2];
     }
-    cat.rows[i - 10] as u64
+    if i < PLACES_AT {
+        return cat.rows[i - COUNTS_AT] as u64;
+    }
+    if i < MASKS_AT {
+        return cat.places[i - PLACES_AT] as u64;
+    }
+    cat.touching[i - MASKS_AT] as u64
 }
 
 // Copies a catalogue into the front of the lent words.
-// A caller may lend more; what lies behind the 18 words stays.
+// A caller may lend more; what lies behind the 34 words stays.
 fn put_catalogue(cat: Catalogue, words: &mut [u64])
     requires { ⌜ catalogueWords ≤ length (now words) ⌝ }
     ensures { λ _. ⌜ now (words .exit) ≡ put (wordsOf cat) (now (words .entry)) ⌝ }
 {
     let mut i: usize = 0;
-    while i < 18 {
+    while i < CATALOGUE_WORDS {
         words[i] = word_of(cat, i);
         i = i + 1;
     }
 }
 
-// The row count of table t among the words of a catalogue.
-// A word that no count of 16 bits holds becomes the highest, which is refused as the word would be.
-fn count_in(words: &[u64], t: usize) -> u16
-    requires { ⌜ 10 + t < length (now words) ⌝ }
-    ensures { λ r. ⌜ r ≡ countIn (now (words .entry)) t ⌝ }
+// A word as a number of 16 bits.
+// One that they do not hold becomes the highest, which is refused as the word would be.
+fn short_in(words: &[u64], i: usize) -> u16
+    requires { ⌜ i < length (now words) ⌝ }
+    ensures { λ r. ⌜ r ≡ shortIn (now (words .entry)) i ⌝ }
 {
-    let count = words[10 + t];
-    if 65535 < count {
+    let word = words[i];
+    if 65535 < word {
         return 65535;
     }
-    count as u16
+    word as u16
+}
+
+// Eight words from a place on as numbers of 16 bits: row counts, places or masks.
+fn shorts_in(words: &[u64], from: usize) -> [u16; 8]
+    requires { ⌜ from + mostTables ≤ length (now words) ⌝ }
+    ensures { λ r. ⌜ r ≡ shortsIn (now (words .entry)) from ⌝ }
+{
+    let mut shorts = [0u16; 8];
+    let mut t: usize = 0;
+    while t < 8 {
+        shorts[t] = short_in(words, from + t);
+        t = t + 1;
+    }
+    shorts
+}
+
+// The eight schemes among the words.
+fn schemes_in(words: &[u64]) -> [u64; 8]
+    requires { ⌜ schemesAt + mostTables ≤ length (now words) ⌝ }
+    ensures { λ r. ⌜ r ≡ part schemesAt mostTables (now (words .entry)) ⌝ }
+{
+    let mut schemes = [0u64; 8];
+    let mut t: usize = 0;
+    while t < 8 {
+        schemes[t] = words[2 + t];
+        t = t + 1;
+    }
+    schemes
 }
 
 // The catalogue that the front of the lent words holds.
-// Nothing is judged here: the writer refuses what is out of range.
+// Nothing is judged here: each call refuses what is out of range or not as it is worked out.
 fn catalogue_in(words: &[u64]) -> Catalogue
     requires { ⌜ catalogueWords ≤ length (now words) ⌝ }
     ensures { λ r. ⌜ r ≡ catalogueIn (now (words .entry)) ⌝ }
 {
-    let mut schemes = [0u64; 8];
-    let mut rows = [0u16; 8];
-    let mut t: usize = 0;
-    while t < 8 {
-        schemes[t] = words[2 + t];
-        rows[t] = count_in(words, t);
-        t = t + 1;
-    }
+    let schemes = schemes_in(words);
+    let rows = shorts_in(words, COUNTS_AT);
+    let places = shorts_in(words, PLACES_AT);
+    let touching = shorts_in(words, MASKS_AT);
     Catalogue {
         m: words[0] as usize,
         n: words[1] as usize,
         schemes,
         rows,
+        places,
+        touching,
     }
 }
 
@@ -83,7 +128,17 @@ fn catalogue_in(words: &[u64]) -> Catalogue
 fn too_few(words: usize) -> bool
     ensures { λ r. ⌜ r ≡ ltb words catalogueWords ⌝ }
 {
-    words < 18
+    words < CATALOGUE_WORDS
+}
+
+// Whether the lent words are too few to make a catalogue: those that say what the tables are, or those that it is copied into.
+fn make_short(given: &[u64], catalogue: &[u64]) -> bool
+    ensures { λ r. ⌜ r ≡ makeShort (now (given .entry)) (now (catalogue .entry)) ⌝ }
+{
+    if given.len() < TABLE_WORDS {
+        return true;
+    }
+    too_few(catalogue.len())
 }
 
 // Puts a count into the first of the lent words, where there is one.
@@ -117,6 +172,23 @@ pub extern "C" fn harbour_load(
     let count = verdicts::looked_of(verdict);
     put_count(count, looked);
     verdicts::number_of(verdict)
+}
+
+// Makes the catalogue of tables made by hand, whose m, n, schemes and row counts are the front of the lent words.
+// The answer is 0, or the first of 4, 5, 6 and 8 with a catalogue of zeros, or 31 where the words are too few.
+#[no_mangle]
+pub extern "C" fn harbour_make_catalogue(given: &[u64], catalogue: &mut [u64]) -> u64
+    ensures { λ r. ⌜ MakeCall (now (given .entry)) (now (catalogue .entry)) r (now (catalogue .exit)) ⌝ }
+{
+    if make_short(given, catalogue) {
+        return 31;
+    }
+    let schemes = schemes_in(given);
+    let rows = shorts_in(given, COUNTS_AT);
+    let m = tables::make_catalogue(given[0] as usize, given[1] as usize, schemes, rows);
+    let cat = m.catalogue;
+    put_catalogue(cat, catalogue);
+    m.refusal as u64
 }
 
 // Writes the image of tables into the lent bytes.

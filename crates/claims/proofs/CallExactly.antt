@@ -21,27 +21,16 @@ use Rattle.store.specs.Store.{storeIn, roomIn}
 use Rattle.machine.specs.Machine.{State, keyDue, Trial, done, full, damaged, trialOn, Says, aSet, finished, working, refused, Called, answer, afterTrial, stray, Fit, unfit, callFault, work, call, openingFor}
 use Rattle.machine.proofs.WorkLaws.{work-ends, work-hands, work-lost, work-spent, work-trial, by-ways}
 use Rattle.machine.proofs.RefusalLaws.{stray-iff, unfit-iff, unfit-met, call-catalogue, call-unfit, call-short, call-free, call-refused, call-works, open-catalogue, opening-says}
+use Rattle.claims.specs.CatalogueRefusals.{OfCatalogue}
 use Rattle.claims.specs.CallRefusals.{TrialDue, Trials, none, more, WorksTo, SetDue, EndDue, Ready, CallExact, Stands, OpenExact}
 use Rattle.claims.proofs.Opens.{opens-iff, stray-met, stray-met-iff, full-iff}
 use Rattle.claims.proofs.ScanLaws.{iff-no, Case, case-of}
 use Rattle.claims.proofs.Searching.{trial-full-iff, trial-damaged-iff}
-use Rattle.claims.proofs.CatalogueExactly.{catalogue-exact}
+use Rattle.claims.proofs.CatalogueExactly.{catalogue-exact, catalogue-not}
 
--- The catalogue's refusals are the low ones.
-catalogue-low : (cat : Catalogue) (lent k : ℕ) → catalogueFault cat lent ≡ k → k < 9
-catalogue-low cat lent k e = by (catalogue-exact cat lent .no-other k e)
-  where
-    by : (k ≡ 0) ⊎ (k ≡ 4) ⊎ (k ≡ 5) ⊎ (k ≡ 6) ⊎ (k ≡ 8) → k < 9
-    by (inl e) = omega arith
-    by (inr (inl e)) = omega arith
-    by (inr (inr (inl e))) = omega arith
-    by (inr (inr (inr (inl e)))) = omega arith
-    by (inr (inr (inr (inr e)))) = omega arith
-
--- Where one is met, it is one of the four.
-catalogue-four : (cat : Catalogue) (lent : ℕ) → (catalogueFault cat lent ≡ 0 → ⊥)
-    → (catalogueFault cat lent ≡ 4) ⊎ (catalogueFault cat lent ≡ 5) ⊎ (catalogueFault cat lent ≡ 6) ⊎ (catalogueFault cat lent ≡ 8)
-catalogue-four cat lent n = ⊎-elim (λ z. absurd (n z)) (λ x. x) (catalogue-exact cat lent .no-other (catalogueFault cat lent) refl)
+-- Where one is met, it is one of the catalogue's.
+catalogue-met : (cat : Catalogue) (lent : ℕ) → (catalogueFault cat lent ≡ 0 → ⊥) → OfCatalogue (catalogueFault cat lent)
+catalogue-met cat lent n = ⊎-elim (λ z. absurd (n z)) (λ x. x) (catalogue-exact cat lent .no-other (catalogueFault cat lent) refl)
 
 same-refusal : (j k : ℕ) → refused j ≡ refused k → j ≡ k
 same-refusal j k e = ap number e
@@ -206,17 +195,18 @@ module _ (cat : Catalogue) (cells : List ℕ) (b : ℕ) (q : State) (row : List 
       (Case 11 k (Good × Fit cat q × (length row < cat .m))
       (Case 12 k (Ready cat cells q row × Stops cat cells full b q)
       (Case 14 k (Ready cat cells q row × (Stops cat cells damaged b q ⊎ Due cat cells false b q))
-      ((k ≡ 4) ⊎ (k ≡ 5) ⊎ (k ≡ 6) ⊎ (k ≡ 8)))))
+      (OfCatalogue k))))
   Told aSet = Ready cat cells q row × Due cat cells true b q
   Told finished = Ready cat cells q row × Ends cat cells b q
   Told working = Ready cat cells q row × Spent cat cells b q
 
   -- The catalogue's refusals are none of the others.
-  told-low : (k : ℕ) → (k ≡ 4) ⊎ (k ≡ 5) ⊎ (k ≡ 6) ⊎ (k ≡ 8) → Told (refused k)
+  told-low : (k : ℕ) → OfCatalogue k → Told (refused k)
   told-low k (inl e) = subst (λ (k : ℕ). Told (refused k)) (sym e) (inl refl)
   told-low k (inr (inl e)) = subst (λ (k : ℕ). Told (refused k)) (sym e) (inr (inl refl))
   told-low k (inr (inr (inl e))) = subst (λ (k : ℕ). Told (refused k)) (sym e) (inr (inr (inl refl)))
-  told-low k (inr (inr (inr e))) = subst (λ (k : ℕ). Told (refused k)) (sym e) (inr (inr (inr refl)))
+  told-low k (inr (inr (inr (inl e)))) = subst (λ (k : ℕ). Told (refused k)) (sym e) (inr (inr (inr (inl refl))))
+  told-low k (inr (inr (inr (inr e)))) = subst (λ (k : ℕ). Told (refused k)) (sym e) (inr (inr (inr (inr refl))))
 
   told : Told (call cat cells b q row .says)
   told = by way
@@ -229,7 +219,7 @@ module _ (cat : Catalogue) (cells : List ℕ) (b : ℕ) (q : State) (row : List 
       atWork y working x = (y, x)
 
       by : Way → Told (call cat cells b q row .says)
-      by (faulty n) = subst Told (sym (faulty-says n)) (told-low (catalogueFault cat (length cells)) (catalogue-four cat (length cells) n))
+      by (faulty n) = subst Told (sym (faulty-says n)) (told-low (catalogueFault cat (length cells)) (catalogue-met cat (length cells) n))
       by (unfits L n) = subst Told (sym (unfit-says L n)) (L, n)
       by (short L g h) = subst Told (sym (short-says L g h)) (L, g, h)
       by (works y) = subst Told (sym (work-says y)) (atWork y (work cat cells b q row .says) (why cat cells row b q))
@@ -238,7 +228,7 @@ module _ (cat : Catalogue) (cells : List ℕ) (b : ℕ) (q : State) (row : List 
   abbrev because : (a : Says) → call cat cells b q row .says ≡ a → Told a
   because a e = subst Told e told
 
-  others : (k : ℕ) → Told (refused k) → ((k ≡ 4) ⊎ (k ≡ 5) ⊎ (k ≡ 6) ⊎ (k ≡ 8)) ⊎ (k ≡ 13) ⊎ (k ≡ 11) ⊎ (k ≡ 12) ⊎ (k ≡ 14)
+  others : (k : ℕ) → Told (refused k) → OfCatalogue k ⊎ (k ≡ 13) ⊎ (k ≡ 11) ⊎ (k ≡ 12) ⊎ (k ≡ 14)
   others k x =
       ⊎-elim (λ e. inr (inl e)) (λ y. ⊎-elim (λ e. inr (inr (inl e))) (λ z. ⊎-elim (λ e. inr (inr (inr (inl e))))
       (λ u. ⊎-elim (λ e. inr (inr (inr (inr e)))) (λ v. inl v) (case-of 14 k _ _ u)) (case-of 12 k _ _ z)) (case-of 11 k _ _ y)) (case-of 13 k _ _ x)
@@ -293,11 +283,11 @@ open-exact cat cells a low high left right =
     record {
       catalogue = λ k h. (λ e. sym (given h) ∙ e, λ e. given h ∙ e);
       refusal-19 = (
-        λ e. let L = lawful 19 (omega arith) e in (L, stray-met-iff cat cells a low high left right L .0 e),
+        λ e. let L = lawful 19 (catalogue-not cat (length cells) 19 refl) e in (L, stray-met-iff cat cells a low high left right L .0 e),
         λ (L, n). stray-met-iff cat cells a low high left right L .1 n,
       );
       refusal-12 = (
-        λ e. let L = lawful 12 (omega arith) e in let (y, n, z) = full-iff cat cells a low high left right L .0 e in (L, y, n, z),
+        λ e. let L = lawful 12 (catalogue-not cat (length cells) 12 refl) e in let (y, n, z) = full-iff cat cells a low high left right L .0 e in (L, y, n, z),
         λ (L, y, n, z). full-iff cat cells a low high left right L .1 (y, n, z),
       );
       none = opens-iff cat cells a low high left right;
@@ -308,13 +298,13 @@ open-exact cat cells a low high left right =
     given h = opening-says cat cells a low high left right ∙ open-catalogue cat (length cells) a (storeIn low high left right 0) h
 
     Others : ℕ → Type 0
-    Others k = (k ≡ 0) ⊎ ((k ≡ 4) ⊎ (k ≡ 5) ⊎ (k ≡ 6) ⊎ (k ≡ 8)) ⊎ (k ≡ 19) ⊎ (k ≡ 12)
+    Others k = (k ≡ 0) ⊎ OfCatalogue k ⊎ (k ≡ 19) ⊎ (k ≡ 12)
 
-    lawful : (k : ℕ) → 8 < k → openingFor cat cells a low high left right .refusal ≡ k → Lawful cat (length cells)
+    lawful : (k : ℕ) → (catalogueFault cat (length cells) ≡ k → ⊥) → openingFor cat cells a low high left right .refusal ≡ k → Lawful cat (length cells)
     lawful k l e =
         elim (ℕ-discrete (catalogueFault cat (length cells)) 0) [
           | yes z ↦ fault-lawful cat (length cells) z
-          | no h ↦ absurd (omega (arith, catalogue-low cat (length cells) k (sym (given h) ∙ e)))
+          | no h ↦ absurd (l (sym (given h) ∙ e))
         ]
 
     given-none : Lawful cat (length cells) → (stray cat a ≡ true) ⊎ (stray cat a ≡ false) → (total cat ≡ 0) ⊎ (0 < total cat)
@@ -330,5 +320,5 @@ open-exact cat cells a low high left right =
         elim (ℕ-discrete (catalogueFault cat (length cells)) 0) [
           | yes z ↦ given-none (fault-lawful cat (length cells) z) (which (stray cat a)) (eq-zero-or-pos (total cat))
               (eq-zero-or-pos (roomIn (storeIn low high left right 0)))
-          | no h ↦ subst Others (sym (given h)) (inr (inl (catalogue-four cat (length cells) h)))
+          | no h ↦ subst Others (sym (given h)) (inr (inl (catalogue-met cat (length cells) h)))
         ]

@@ -209,6 +209,7 @@ pub determined : OneOutcome
 determined =
     record {
       load = loads-one;
+      «make_catalogue» = λ m n xs cs r r′ c d. c ∙ sym d;
       write = writes-one;
       «open» = λ cat cells keys left right r r′ ks ls rs ks′ ls′ rs′ e e′. opens-one everySet everySet r r′ ks ls rs ks′ ls′ rs′ (e ∙ sym e′);
       step = λ cat cells s keys left right row b r r′ ks ls rs w ks′ ls′ rs′ w′ e e′. steps-one everySet everySet r r′ ks ls rs w ks′ ls′ rs′ w′ (e ∙ sym e′);
@@ -222,6 +223,7 @@ determined =
       check = λ s r r′ e e′. e ∙ sym e′;
       «harbour_load» = λ image cells words looked r r′ cs ws ls cs′ ws′ ls′ c d.
           (c .answer ∙ sym (d .answer), c .cells-after ∙ sym (d .cells-after), c .words-after ∙ sym (d .words-after), c .looked-after ∙ sym (d .looked-after));
+      «harbour_make_catalogue» = λ given words r r′ ws ws′ c d. (c .answer ∙ sym (d .answer), c .words-after ∙ sym (d .words-after));
       «harbour_write» = λ words cells out r r′ o o′ c d. (c .answer ∙ sym (d .answer), c .bytes-after ∙ sym (d .bytes-after));
       «harbour_open» = λ catalogue cells keys left right words r r′ ks ls rs ws ks′ ls′ rs′ ws′ c d. opening-one c d;
       «harbour_next» = λ catalogue cells keys left right words b row result r r′ ks ls rs ws w res ks′ ls′ rs′ ws′ w′ res′ c d. calling-one c d;

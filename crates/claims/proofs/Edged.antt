@@ -10,9 +10,9 @@ use Rattle.numbers.specs.Numbers.{decode}
 use Rattle.keys.specs.Keys.{rowOf, keyOf, rowsIn}
 use Rattle.tables.specs.Sizes.{mostCells}
 use Rattle.tables.specs.Sample.{sampleBytes, three, threeCells}
-use Rattle.tables.specs.Catalogues.{firstCell, rowStart, rowsBefore}
+use Rattle.tables.specs.Catalogues.{firstCell, touch, touchingBelow, forTables, rowStart, rowsBefore}
 use Rattle.tables.specs.Rows.{below}
-use Rattle.tables.specs.Checks.{sizeFault, badScheme, countFault, tableFault, tablesFault, catalogueFault}
+use Rattle.tables.specs.Checks.{sizeFault, badScheme, countFault, tableFault, tablesFault, shapeFault, misstored, storedFault, catalogueFault}
 use Rattle.disjunction.specs.Rule.{rowsTo, rowsBelow, member, absent, near, agrees, rowTest, walk, grow, extension, stays, dropped, alone, joins, membersBelow, piece, start, trial}
 use Rattle.disjunction.specs.Cells.{same, sharing, matching, gives, codeBelow, padded}
 use Rattle.rows.specs.World.{touchesIn, fitsIn}
@@ -31,7 +31,7 @@ use Rattle.claims.specs.Edges.{callsOn, saysIn, Edges, SampleLoads}
 -- ---- the sample
 
 sample-scanned : (scanOf sampleBytes mostCells ≡ found three) × (tablesCodes 3 sampleBytes firstTable ≡ threeCells)
-unfolding sampleBytes three threeCells decode ones onesIn badScheme countFault below runEnd codes rowsFrom fieldAt countAt tableAt tablesFrom scanOf tablesCodes
+unfolding sampleBytes three threeCells decode ones onesIn firstCell touch touchingBelow forTables tab badScheme countFault below runEnd codes rowsFrom fieldAt countAt tableAt tablesFrom scanOf tablesCodes
 sample-scanned = (refl, refl)
 
 pub sample-loads : SampleLoads
@@ -46,7 +46,7 @@ sample-loads lent after r h l =
 -- ---- the list
 
 pub edges : Edges
-unfolding callsOn saysIn handed runOf call callFault work unfit dueOr handOut trialOn offered placed answerOf storeAfter added Store.named searchOf Store.walk linkOf openingFor openFault begun catalogueFault sizeFault tablesFault tableFault badScheme countFault firstCell rowStart rowsBefore named missing beyond rowsIn rowOf keyOf filed bitOf ones onesIn touchesIn fitsIn sharing matching same trial start piece joins membersBelow dropped stays tab extension grow walk rowTest near agrees absent member rowsBelow rowsTo alone any all padded codeBelow gives decode below runEnd codes rowsFrom fieldAt countAt tableAt tablesFrom scanOf tablesCodes
+unfolding callsOn saysIn handed runOf call callFault work unfit dueOr handOut trialOn offered placed answerOf storeAfter added Store.named searchOf Store.walk linkOf openingFor openFault begun catalogueFault shapeFault storedFault misstored touchingBelow touch forTables sizeFault tablesFault tableFault badScheme countFault firstCell rowStart rowsBefore named missing beyond rowsIn rowOf keyOf filed bitOf ones onesIn touchesIn fitsIn sharing matching same trial start piece joins membersBelow dropped stays tab extension grow walk rowTest near agrees absent member rowsBelow rowsTo alone any all padded codeBelow gives decode below runEnd codes rowsFrom fieldAt countAt tableAt tablesFrom scanOf tablesCodes
 edges =
     record {
       numbers = number-edges;

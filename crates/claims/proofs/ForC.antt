@@ -20,25 +20,27 @@ use Rattle.loader.specs.declared.Verdict.the-variants.{Good, Refused}
 use Rattle.loader.specs.declared.Loaded.{Loaded}
 use Rattle.writer.specs.declared.Written.{Written}
 use Rattle.writer.specs.declared.Written.the-variants as Written
-use Rattle.loader.specs.Load.{firstTable, noCatalogue, farthest, NearVerdict, scanOf, tablesCodes, cellsAfter, Loads}
+use Rattle.tables.specs.Catalogues.{noTables}
+use Rattle.loader.specs.Load.{firstTable, farthest, NearVerdict, scanOf, tablesCodes, cellsAfter, Loads}
 use Rattle.writer.specs.Write.{imageOf, written, bytesAfter}
 use Rattle.loader.proofs.PlaceLaws.{scan-near}
 use Rattle.verdicts.specs.Number.{doorNumber, lookedIn}
 use Rattle.machine.specs.Machine.{State, stateFor, Says, aSet, finished, working, refused, Called, answer, callFault, call, Opened, zeros, openingFor}
 use Rattle.machine.proofs.RefusalLaws.{call-refused}
 use Rattle.stream.specs.Promises.{stateOf, holdingStateOf}
-use Rattle.abi.specs.Words.{catalogueWords, wordsOf, catalogueIn}
-use Rattle.abi.specs.Calls.{tooFewWords, short, LoadCall, writtenNumber, WriteCall}
+use Rattle.abi.specs.Words.{catalogueWords, tableWords, wordsOf, catalogueIn}
+use Rattle.abi.specs.Calls.{tooFewWords, short, LoadCall, makeShort, madeIn, MakeCall, writtenNumber, WriteCall}
 use Rattle.abi.specs.Lists.{verdictNumber, verdictWord, verdictWords, listShort, ListCall}
 use Rattle.hub.specs.declared.ListVerdict.{ListVerdict}
 use Rattle.hub.specs.declared.ListVerdict.the-variants as Hub
 use Rattle.hub.specs.Promises.{checked}
 use Rattle.abi.specs.Streams.{recordWords, holdingWords, resultWords, wordsOfState, recordIn, holdingIn, resultOfCall, answerNumber, openedNumber, openShort, nextShort, Opening, Calling}
+use Rattle.claims.specs.CatalogueRefusals.{OfCatalogue}
 use Rattle.claims.specs.CallsForC.{Reads, ReadsList, OpenTold, CallTold, FewToOpen, FewToCall, AbiExact}
 use Rattle.claims.proofs.ScanLaws.{lt-iff, or-iff, iff-no}
 use Rattle.claims.proofs.LoadExactly.{load-exact, some-refusal}
 use Rattle.claims.proofs.WriteExactly.{write-exact}
-use Rattle.claims.proofs.CatalogueExactly.{catalogue-exact}
+use Rattle.claims.proofs.CatalogueExactly.{catalogue-exact, of-catalogue-low, make-exact}
 use Rattle.claims.proofs.ListChecked.{list-exact}
 use Rattle.claims.proofs.CallExactly.{call-exact, open-exact}
 use Rattle.claims.proofs.Exact.{demand1}
@@ -104,7 +106,7 @@ module _ (image cells words looked : List ℕ) (r : ℕ) (cells′ words′ look
     load-answer = behind (short words) tooFewWords (doorNumber (scanOf image (length cells) .verdict)) r long (c .answer)
 
     load-refused : (f : Fault) → scanOf image (length cells) .verdict ≡ Refused f
-        → (r % 32 ≡ f .refusal) × (r / 32 ≡ f .place) × (cells′ ≡ cells) × (words′ ≡ put (wordsOf noCatalogue) words) × (looked′ ≡ set looked 0 (f .looked))
+        → (r % 32 ≡ f .refusal) × (r / 32 ≡ f .place) × (cells′ ≡ cells) × (words′ ≡ put (wordsOf noTables) words) × (looked′ ≡ set looked 0 (f .looked))
     load-refused f e =
         let n : NearVerdict farthest (Refused f) = subst (NearVerdict farthest) e (near image (length cells)) in
         let a : r ≡ f .place * 32 + f .refusal = load-answer ∙ ap doorNumber e in (
@@ -119,6 +121,32 @@ module _ (image cells words looked : List ℕ) (r : ℕ) (cells′ words′ look
               ∙ ap (λ (v : Verdict). set looked 0 (lookedIn v)) e,
         )
 
+make-short-iff : (given words : List ℕ) → (makeShort given words ≡ true) ↔ ((length given < tableWords) ⊎ (length words < catalogueWords))
+unfolding makeShort
+make-short-iff given words = or-iff (ltb (length given) tableWords) (short words) (lt-iff (length given) tableWords) (lt-iff (length words) catalogueWords)
+
+module _ (given words : List ℕ) (r : ℕ) (words′ : List ℕ) (c : MakeCall given words r words′) where
+  make-apart : madeIn given .refusal ≡ tooFewWords → ⊥
+  make-apart e = by (make-exact _ _ _ _ (madeIn given) refl .no-other tooFewWords e)
+    where
+      by : (tooFewWords ≡ 0) ⊎ (tooFewWords ≡ 4) ⊎ (tooFewWords ≡ 5) ⊎ (tooFewWords ≡ 6) ⊎ (tooFewWords ≡ 8) → ⊥
+      by (inl z) = absurd (omega arith)
+      by (inr (inl z)) = absurd (omega arith)
+      by (inr (inr (inl z))) = absurd (omega arith)
+      by (inr (inr (inr (inl z)))) = absurd (omega arith)
+      by (inr (inr (inr (inr z)))) = absurd (omega arith)
+
+  make-few : (r ≡ tooFewWords) ↔ ((length given < tableWords) ⊎ (length words < catalogueWords))
+  make-few = only-few (makeShort given words) (madeIn given .refusal) r (make-short-iff given words) make-apart (c .answer)
+
+  make-told : ((length given < tableWords) ⊎ (length words < catalogueWords) → ⊥)
+      → (r ≡ madeIn given .refusal) × (words′ ≡ put (wordsOf (madeIn given .catalogue)) words)
+  make-told n =
+      let long = iff-no (makeShort given words) (make-short-iff given words) .1 n in (
+        behind (makeShort given words) tooFewWords (madeIn given .refusal) r long (c .answer),
+        behind (makeShort given words) words (put (wordsOf (madeIn given .catalogue)) words) words′ long (c .words-after),
+      )
+
 module _ (words cells out : List ℕ) (r : ℕ) (out′ : List ℕ) (c : WriteCall words cells out r out′) where
   abbrev says : Written
   says = written (catalogueIn words) cells (length out)
@@ -126,14 +154,11 @@ module _ (words cells out : List ℕ) (r : ℕ) (out′ : List ℕ) (c : WriteCa
   write-low : (k : ℕ) → says ≡ Written.Refused k → k < tooFewWords
   write-low k e = by (write-exact (catalogueIn words) cells (length out) .no-other k e)
     where
-      by : (k ≡ 4) ⊎ (k ≡ 5) ⊎ (k ≡ 6) ⊎ (k ≡ 8) ⊎ (k ≡ 10) ⊎ (k ≡ 7) ⊎ (k ≡ 11) → k < tooFewWords
-      by (inl e) = omega arith
+      by : OfCatalogue k ⊎ (k ≡ 10) ⊎ (k ≡ 7) ⊎ (k ≡ 11) → k < tooFewWords
+      by (inl x) = omega (arith, of-catalogue-low k x)
       by (inr (inl e)) = omega arith
       by (inr (inr (inl e))) = omega arith
-      by (inr (inr (inr (inl e)))) = omega arith
-      by (inr (inr (inr (inr (inl e))))) = omega arith
-      by (inr (inr (inr (inr (inr (inl e)))))) = omega arith
-      by (inr (inr (inr (inr (inr (inr e)))))) = omega arith
+      by (inr (inr (inr e))) = omega arith
 
   write-apart : writtenNumber says ≡ tooFewWords → ⊥
   write-apart = by says refl
@@ -172,13 +197,9 @@ module _ (w : ℕ) (a : Asked) (catalogue cells keys left right words : List ℕ
   open-low : o .refusal < tooFewWords
   open-low = by (open-exact (catalogueIn catalogue) cells a keys left right .no-other (o .refusal) refl)
     where
-      by : (o .refusal ≡ 0) ⊎ ((o .refusal ≡ 4) ⊎ (o .refusal ≡ 5) ⊎ (o .refusal ≡ 6) ⊎ (o .refusal ≡ 8)) ⊎ (o .refusal ≡ 19) ⊎ (o .refusal ≡ 12)
-          → o .refusal < tooFewWords
+      by : (o .refusal ≡ 0) ⊎ OfCatalogue (o .refusal) ⊎ (o .refusal ≡ 19) ⊎ (o .refusal ≡ 12) → o .refusal < tooFewWords
       by (inl e) = omega arith
-      by (inr (inl (inl e))) = omega arith
-      by (inr (inl (inr (inl e)))) = omega arith
-      by (inr (inl (inr (inr (inl e))))) = omega arith
-      by (inr (inl (inr (inr (inr e))))) = omega arith
+      by (inr (inl x)) = omega (arith, of-catalogue-low (o .refusal) x)
       by (inr (inr (inl e))) = omega arith
       by (inr (inr (inr e))) = omega arith
 
@@ -233,11 +254,8 @@ module _ (w : ℕ) (a : Asked) (catalogue cells keys left right words : List ℕ
   call-low : (k : ℕ) → s .says ≡ refused k → k < tooFewWords
   call-low k e = by (call-exact (catalogueIn catalogue) cells b q row .no-other k e)
     where
-      by : ((k ≡ 4) ⊎ (k ≡ 5) ⊎ (k ≡ 6) ⊎ (k ≡ 8)) ⊎ (k ≡ 13) ⊎ (k ≡ 11) ⊎ (k ≡ 12) ⊎ (k ≡ 14) → k < tooFewWords
-      by (inl (inl e)) = omega arith
-      by (inl (inr (inl e))) = omega arith
-      by (inl (inr (inr (inl e)))) = omega arith
-      by (inl (inr (inr (inr e)))) = omega arith
+      by : OfCatalogue k ⊎ (k ≡ 13) ⊎ (k ≡ 11) ⊎ (k ≡ 12) ⊎ (k ≡ 14) → k < tooFewWords
+      by (inl x) = omega (arith, of-catalogue-low k x)
       by (inr (inl e)) = omega arith
       by (inr (inr (inl e))) = omega arith
       by (inr (inr (inr (inl e)))) = omega arith
@@ -298,12 +316,9 @@ module _ (catalogue cells listed result : List ℕ) (r : ℕ) (result′ : List 
   list-low : (k : ℕ) → told ≡ Hub.Refused k → k < tooFewWords
   list-low k e = by (catalogue-exact (catalogueIn catalogue) (length cells) .no-other k (list-exact (catalogueIn catalogue) cells listed told refl .refusal k .0 e .1))
     where
-      by : (k ≡ 0) ⊎ (k ≡ 4) ⊎ (k ≡ 5) ⊎ (k ≡ 6) ⊎ (k ≡ 8) → k < tooFewWords
+      by : (k ≡ 0) ⊎ OfCatalogue k → k < tooFewWords
       by (inl z) = omega arith
-      by (inr (inl z)) = omega arith
-      by (inr (inr (inl z))) = omega arith
-      by (inr (inr (inr (inl z)))) = omega arith
-      by (inr (inr (inr (inr z)))) = omega arith
+      by (inr x) = omega (arith, of-catalogue-low k x)
 
   list-apart : verdictNumber told ≡ tooFewWords → ⊥
   list-apart = by told refl
@@ -339,6 +354,8 @@ abi-exact =
       load-good = λ image cells words looked r cells′ words′ looked′ c h. subst (λ (x : ℕ). (x ≡ 0) ↔ (scanOf image (length cells) .verdict ≡ Good))
           (sym (load-answer image cells words looked r cells′ words′ looked′ c h)) (door-good image (length cells));
       load-refused = load-refused;
+      make-few = make-few;
+      make-told = make-told;
       write-few = write-few;
       write-length = write-length;
       write-refused = write-refused;

@@ -13,8 +13,8 @@ use Rattle.words.specs.Words.{bitOf}
 use Rattle.keys.specs.Keys.{rowOf, keyOf, rowsIn}
 use Rattle.keys.specs.TwoWords.{joined, firstWord, secondWord}
 use Rattle.tables.specs.declared.Catalogue.{Catalogue}
-use Rattle.tables.specs.Catalogues.{firstCell, rowStart, rowsBefore, total}
-use Rattle.tables.specs.Checks.{Lawful, sizeFault, badScheme, countFault, tableFault, tablesFault, catalogueFault}
+use Rattle.tables.specs.Catalogues.{firstCell, touch, touchingBelow, rowStart, rowsBefore, total}
+use Rattle.tables.specs.Checks.{Lawful, sizeFault, badScheme, countFault, tableFault, tablesFault, shapeFault, misstored, storedFault, catalogueFault}
 use Rattle.disjunction.specs.Asked.{Asked, everySet, Sought}
 use Rattle.disjunction.specs.Rule.{rowsTo, rowsBelow, member, absent, near, agrees, rowTest, walk, grow, extension, stays, dropped, alone, joins, membersBelow, piece, start, trial}
 use Rattle.disjunction.specs.Cells.{same, sharing, matching, gives, codeBelow, padded}
@@ -151,7 +151,7 @@ twoCalls = record { budget = 0; row = 0 ∷ 0 ∷ 0 ∷ [] } ∷ record { budget
 
 rushed-made : (all : Store) → (made (runOf (rushes all (call three threeCells)) twoCalls (first 4 .after)) ≡ 2)
     × (endedOf (rushes all (call three threeCells)) twoCalls (first 4 .after) .store ≡ all)
-unfolding joined firstWord secondWord sum handed runOf endedOf call callFault work unfit dueOr handOut trialOn offered placed answerOf storeAfter added Store.named searchOf Store.walk linkOf three threeCells first openingFor openFault begun catalogueFault sizeFault tablesFault tableFault badScheme countFault firstCell rowStart rowsBefore named missing beyond rowsIn rowOf keyOf filed bitOf ones touchesIn fitsIn sharing matching same trial start piece joins membersBelow dropped stays tab extension grow walk rowTest near agrees absent member rowsBelow rowsTo alone any all padded codeBelow gives
+unfolding joined firstWord secondWord sum handed runOf endedOf call callFault work unfit dueOr handOut trialOn offered placed answerOf storeAfter added Store.named searchOf Store.walk linkOf three threeCells first openingFor openFault begun catalogueFault shapeFault storedFault misstored touchingBelow touch sizeFault tablesFault tableFault badScheme countFault firstCell rowStart rowsBefore named missing beyond rowsIn rowOf keyOf filed bitOf ones touchesIn fitsIn sharing matching same trial start piece joins membersBelow dropped stays tab extension grow walk rowTest near agrees absent member rowsBelow rowsTo alone any all padded codeBelow gives
 rushed-made all = (refl, refl)
 
 pub rushed : Rushed

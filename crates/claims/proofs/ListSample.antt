@@ -9,8 +9,8 @@ use Rattle.laws.specs.Lists.{tab}
 use Rattle.words.specs.Words.{bitOf}
 use Rattle.keys.specs.Keys.{rowOf, keyOf, rowsIn}
 use Rattle.tables.specs.Sample.{three, threeCells}
-use Rattle.tables.specs.Catalogues.{firstCell, rowStart, rowsBefore}
-use Rattle.tables.specs.Checks.{sizeFault, badScheme, countFault, tableFault, tablesFault, catalogueFault}
+use Rattle.tables.specs.Catalogues.{firstCell, touch, touchingBelow, rowStart, rowsBefore}
+use Rattle.tables.specs.Checks.{sizeFault, badScheme, countFault, tableFault, tablesFault, shapeFault, misstored, storedFault, catalogueFault}
 use Rattle.disjunction.specs.Rule.{rowsTo, rowsBelow, member, absent, near, agrees, rowTest, walk, grow, extension, stays, dropped, alone, joins, membersBelow, piece, start, trial}
 use Rattle.disjunction.specs.Cells.{same, sharing, matching}
 use Rattle.disjunction.specs.Keeping.{sameDec, sets-discrete, decMemᴰ, listOpen}
@@ -35,5 +35,5 @@ pub sample-lists : (asks (65793 ∷ (131074 ∷ (512 ∷ []))) ≡ Right)
     × (asks (16777216 ∷ []) ≡ Entry 0)
     × (asks (65793 ∷ (512 ∷ [])) ≡ Missing 131074)
     × (asks [] ≡ Missing 65793)
-unfolding three threeCells checked verdict lowestBelow spoilt standing valid givesBack sameSet isYes sets-discrete sameDec listed decMemᴰ seek tried triedOn reached listOpen wordSet named missing beyond catalogueFault sizeFault tablesFault tableFault badScheme countFault firstCell rowStart rowsBefore touchesIn fitsIn sharing matching same bitOf ones rowOf keyOf rowsIn tab extension grow walk rowTest near agrees absent member rowsBelow rowsTo alone joins membersBelow piece start stays dropped trial any all ℕ-discrete
+unfolding three threeCells checked verdict lowestBelow spoilt standing valid givesBack sameSet isYes sets-discrete sameDec listed decMemᴰ seek tried triedOn reached listOpen wordSet named missing beyond catalogueFault shapeFault storedFault misstored touchingBelow touch sizeFault tablesFault tableFault badScheme countFault firstCell rowStart rowsBefore touchesIn fitsIn sharing matching same bitOf ones rowOf keyOf rowsIn tab extension grow walk rowTest near agrees absent member rowsBelow rowsTo alone joins membersBelow piece start stays dropped trial any all ℕ-discrete
 sample-lists = (refl, refl, refl, refl, refl, refl, refl, refl)

@@ -29,6 +29,7 @@ use Rattle.loader.specs.declared.Verdict.{Verdict}
 use Rattle.loader.specs.declared.Verdict.the-variants.{Good, Refused}
 use Rattle.loader.specs.declared.Loaded.{Loaded}
 use Rattle.loader.specs.Reading.{refusalAt, onWalk, runEnd, codes, rowsFrom}
+use Rattle.tables.specs.Catalogues.{filled, given}
 use Rattle.loader.specs.Load.{refused, fieldAt, onField, entryOf, countAt, tableAt, onEntry, tablesFrom, scanOf}
 use Rattle.loader.proofs.LoadLaws.{count-bad, count-fault, count-rows, table-bad, table-scheme, table-count, field-bad, field-out, field-in}
 use Rattle.claims.specs.LoadRefusals.{Before, none, rowAt, Due, theVersion, attributes, tables, table, rowCount, rows, cells, NumberDue, Rises, Passes, version-is, m-is, n-is, scheme-is, count-is, row-begins, cell-is, row-rises, rows-end, Meets, number, other-version, m-out, n-out, bad-scheme, many-rows, many-cells, not-rising, surplus, Reaches, start, on, FirstFault, ReadWhole}
@@ -90,7 +91,7 @@ module _ (s : List ℕ) (room : ℕ) where
   unfolding tablesFrom tablesSay
   tables-say zero m n t u xs cs i = by (ltb i (length s))
     where
-      by : (b : Bool) → cond b (refused (refusalAt 9 i 0)) (record { verdict = Good; catalogue = record { m = m; n = n; schemes = xs; rows = cs } }) .verdict
+      by : (b : Bool) → cond b (refused (refusalAt 9 i 0)) (record { verdict = Good; catalogue = filled (given m n xs cs) }) .verdict
           ≡ cond b (Refused (refusalAt 9 i 0)) Good
       by true = refl
       by false = refl

@@ -16,7 +16,8 @@ use Rattle.loader.specs.declared.Verdict.{Verdict}
 use Rattle.loader.specs.declared.Verdict.the-variants.{Good, Refused}
 use Rattle.loader.specs.declared.Loaded.{Loaded}
 use Rattle.loader.specs.Reading.{refusalAt}
-use Rattle.loader.specs.Load.{firstTable, noCatalogue, refused, fieldAt, onField, tableAt, onEntry, tablesFrom, scanOf, tablesCodes, cellsAfter}
+use Rattle.tables.specs.Catalogues.{filled, given, noTables}
+use Rattle.loader.specs.Load.{firstTable, refused, fieldAt, onField, tableAt, onEntry, tablesFrom, scanOf, tablesCodes, cellsAfter}
 use Rattle.disjunction.specs.Asked.{everySet}
 use Rattle.machine.specs.Machine.{Called, Opened}
 use Rattle.stream.specs.Promises.{stateOf}
@@ -27,7 +28,7 @@ use Rattle.claims.proofs.Exact.{demand1}
 -- A refused load has a catalogue of zeros.
 abbrev Zeroed : Verdict → Catalogue → Type 0
 Zeroed Good cat = _≡_ {A = ℕ} 0 0
-Zeroed (Refused f) cat = cat ≡ noCatalogue
+Zeroed (Refused f) cat = cat ≡ noTables
 
 abbrev Zeroes : Loaded → Type 0
 Zeroes r = Zeroed (r .verdict) (r .catalogue)
@@ -40,7 +41,7 @@ tables-zero : (k : ℕ) (s : List ℕ) (room m n t used : ℕ) (xs cs : List ℕ
 unfolding tablesFrom
 tables-zero zero s room m n t used xs cs i = by (ltb i (length s))
   where
-    by : (b : Bool) → Zeroes (cond b (refused (refusalAt 9 i 0)) (record { verdict = Good; catalogue = record { m = m; n = n; schemes = xs; rows = cs } }))
+    by : (b : Bool) → Zeroes (cond b (refused (refusalAt 9 i 0)) (record { verdict = Good; catalogue = filled (given m n xs cs) }))
     by true = refl
     by false = refl
 tables-zero (suc k) s room m n t used xs cs i =
@@ -59,7 +60,7 @@ scan-zero s room =
     on-field (fieldAt s j 1 mostTables 4) _ (λ n k.
     tables-zero n s room m n 0 0 (replicate 8 0) (replicate 8 0) k)))
 
-pub scan-zeros : (s : List ℕ) (room : ℕ) (f : Fault) → scanOf s room .verdict ≡ Refused f → scanOf s room .catalogue ≡ noCatalogue
+pub scan-zeros : (s : List ℕ) (room : ℕ) (f : Fault) → scanOf s room .verdict ≡ Refused f → scanOf s room .catalogue ≡ noTables
 scan-zeros s room f e = subst (λ (v : Verdict). Zeroed v (scanOf s room .catalogue)) e (scan-zero s room)
 
 pub unchanged : Unchanged

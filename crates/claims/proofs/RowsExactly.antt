@@ -16,8 +16,7 @@ use Rattle.tables.specs.declared.Catalogue.{Catalogue}
 use Rattle.tables.specs.Catalogues.{schemeOf, countOf, firstCell, rowStart}
 use Rattle.tables.specs.Rows.{below}
 use Rattle.tables.specs.Checks.{firstOf}
-use Rattle.writer.specs.Write.{tooHigh, rowsFault}
-use Rattle.writer.proofs.AcceptLaws.{rowsAt}
+use Rattle.writer.specs.Write.{tooHigh, rowsFault, rowsRefusal}
 use Rattle.claims.specs.WriteRefusals.{rowCells, HighCode, NotRising, GoodRow}
 use Rattle.claims.proofs.ScanLaws.{Case, case-of, step-iff, last-iff, scan, meets-iff, meets-none}
 
@@ -113,7 +112,7 @@ module _ (cat : Catalogue) (cells : List ℕ) (t : ℕ) where
   abbrev check : ℕ → ℕ
   check i = rowFault (i + 1)
 
-  table-scan : rowsAt cat cells t ≡ scan check (countOf cat t) 0
+  table-scan : rowsRefusal cat cells t ≡ scan check (countOf cat t) 0
   unfolding rowStart
   table-scan = rows-scan (countOf cat t) 0 true 0 (firstCell cat t) (omega arith) refl
 
@@ -124,7 +123,7 @@ module _ (cat : Catalogue) (cells : List ℕ) (t : ℕ) where
   abbrev pub RowsMeet : ℕ → Type 0
   RowsMeet k = (r : ℕ) × (1 ≤ r) × (r ≤ countOf cat t) × Row r k × ((q : ℕ) → 1 ≤ q → q < r → GoodRow cat cells t q)
 
-  pub rows-iff : (k : ℕ) → (k ≡ 0 → ⊥) → (rowsAt cat cells t ≡ k) ↔ RowsMeet k
+  pub rows-iff : (k : ℕ) → (k ≡ 0 → ⊥) → (rowsRefusal cat cells t ≡ k) ↔ RowsMeet k
   rows-iff k h =
       let p = meets-iff check (λ j. Row (j + 1)) (λ j. row-iff (j + 1)) (countOf cat t) k h in (
         λ e. let (i, l, x, b) = p .0 (sym table-scan ∙ e) in
@@ -133,7 +132,7 @@ module _ (cat : Catalogue) (cells : List ℕ) (t : ℕ) where
             ∙ p .1 (r - 1, omega arith, subst (λ (a : ℕ). Row a k) (sym (back r j)) x, λ u g. b (u + 1) (omega arith) (omega arith)),
       )
 
-  pub rows-good : (rowsAt cat cells t ≡ 0) ↔ ((r : ℕ) → 1 ≤ r → r ≤ countOf cat t → GoodRow cat cells t r)
+  pub rows-good : (rowsRefusal cat cells t ≡ 0) ↔ ((r : ℕ) → 1 ≤ r → r ≤ countOf cat t → GoodRow cat cells t r)
   rows-good =
       let p = meets-none check (λ j. Row (j + 1)) (λ j. row-iff (j + 1)) (countOf cat t) in (
         λ e r j l. subst (λ (a : ℕ). Row a 0) (back r j) (p .0 (sym table-scan ∙ e) (r - 1) (omega arith)),

@@ -5,7 +5,7 @@ use native.Mathlib.Decide.{ℕ-discrete, decLt}
 use native.Mathlib.Omega.{arith}
 use mathlib.Core.Path.{_≡_, refl, sym, ap, _∙_}
 use mathlib.Core.Logic.{_⊎_, _↔_, inl, inr, ⊎-elim}
-use mathlib.Core.Bool.{Bool, true, false, cond, _||_}
+use mathlib.Core.Bool.{Bool, true, false, not, cond, _||_}
 use lib.Dec.{ltb, leb, eqb}
 use borrow.Author.Tests.{ltb-true, lt-ltb, leb-true, le-leb, eqb-true, eqb-false, eq-eqb}
 use Rattle.laws.proofs.TestLaws.{clash, not-yes, or-case, or-left, or-right}
@@ -32,6 +32,11 @@ or-iff a b p q = (
 -- A test says no exactly where its condition fails.
 pub iff-no : {A : Type 0} (a : Bool) → ((a ≡ true) ↔ A) → (a ≡ false) ↔ (A → ⊥)
 iff-no a p = (λ e x. clash (p .1 x) e, λ n. not-yes a (λ e. n (p .0 e)))
+
+-- The other way round.
+pub not-iff : {A : Type 0} (a : Bool) → ((a ≡ true) ↔ A) → (not a ≡ true) ↔ (A → ⊥)
+not-iff true p = (λ e. absurd (clash e refl), λ n. absurd (n (p .0 refl)))
+not-iff false p = (λ e x. clash (p .1 x) refl, λ n. refl)
 
 -- ---- what one number stands for
 

@@ -20,8 +20,8 @@ use Rattle.keys.specs.Keys.{bitsPerRow, rowOf, keyOf}
 use Rattle.numbers.specs.Numbers.{encode}
 use Rattle.tables.specs.declared.Catalogue.{Catalogue}
 use Rattle.tables.specs.Sizes.{mostTables}
-use Rattle.tables.specs.Catalogues.{schemeOf, countOf, firstCell, rowStart, codeOf, rowsBefore, total}
-use Rattle.tables.specs.Checks.{firstOf, sizeFault, tableFault, tablesFault, catalogueFault, Lawful}
+use Rattle.tables.specs.Catalogues.{schemeOf, countOf, firstCell, touch, touchingBelow, rowStart, codeOf, rowsBefore, total}
+use Rattle.tables.specs.Checks.{firstOf, sizeFault, tableFault, tablesFault, shapeFault, misstored, storedFault, catalogueFault, Lawful}
 use Rattle.tables.proofs.CheckLaws.{fault-lawful}
 use Rattle.disjunction.specs.Sets.{Tables, at}
 use Rattle.disjunction.specs.Rule.{Place, addRow, rowAt, member, Grown, extension, alone, trial}
@@ -32,15 +32,15 @@ use Rattle.rows.specs.Named.{missing, beyond, named, rowsThere}
 use Rattle.store.specs.Store.{Store, storeIn, roomIn}
 use Rattle.image.specs.RoundTrip.{front}
 use Rattle.image.proofs.RoundTrip.{found-good, load-trimmed}
-use Rattle.writer.specs.Write.{encodes, tablesImage, imageOf, rowsFault, tablesRefusal, writeFault, lengthFault, written}
+use Rattle.writer.specs.Write.{encodes, tablesImage, imageOf, rowsFault, cellsFault, writeFault, lengthFault, written}
 use Rattle.machine.specs.Machine.{State, keyAt, keyDue, Trial, done, full, deepest, offeredIf, damaged, trialDue, trialOn, Called, finished, working, refused, answer, afterTrial, stray, unfit, callFault, unlessMet, paddedIn, handOut, dueOr, work, call, Opened, openFault, firstGrown, begun, openingFor}
 use Rattle.machine.proofs.RefusalLaws.{call-clear}
 use Rattle.claims.specs.Ignored.{entered, Agree, Ignored}
 use Rattle.claims.proofs.Alike.{any-ext, rowAt-alike, extension-alike, trial-alike, rowAt-table}
 
-module _ (cat : Catalogue) (xs cs : List ℕ) (A : Agree cat xs cs) where
+module _ (cat : Catalogue) (xs cs ps ms : List ℕ) (A : Agree cat xs cs ps ms) where
   abbrev cat′ : Catalogue
-  cat′ = entered cat xs cs
+  cat′ = entered cat xs cs ps ms
 
   -- ---- places and rows
 
@@ -73,9 +73,18 @@ module _ (cat : Catalogue) (xs cs : List ℕ) (A : Agree cat xs cs) where
   tables-fault lent (suc k) t h =
       rw (first-same t (omega arith), A .schemes t (omega arith), A .rows t (omega arith), tables-fault lent k (t + 1) (omega arith)) refl
 
+  touching-same : (t k : ℕ) → t < cat .n → k ≤ cat .n → touchingBelow cat′ t k ≡ touchingBelow cat t k
+  unfolding touchingBelow touch
+  touching-same t zero h l = refl
+  touching-same t (suc k) h l = rw (touching-same t k h (omega arith), A .schemes t h, A .schemes k (omega arith)) refl
+
+  misstored-same : (t : ℕ) → t < cat .n → misstored cat′ t ≡ misstored cat t
+  unfolding misstored
+  misstored-same t h = rw (A .places t h, first-same t (omega arith), A .touching t h, touching-same t (cat .n) h (omega arith)) refl
+
   fault-same : (lent : ℕ) → catalogueFault cat′ lent ≡ catalogueFault cat lent
-  unfolding catalogueFault
-  fault-same lent = rw (tables-fault lent (cat .n) 0 (omega arith)) refl
+  unfolding catalogueFault shapeFault storedFault
+  fault-same lent = rw (tables-fault lent (cat .n) 0 (omega arith), any-ext (cat .n) (misstored cat′) (misstored cat) misstored-same) refl
 
   -- ---- the rule's tables
 
@@ -225,11 +234,11 @@ module _ (cat : Catalogue) (xs cs : List ℕ) (A : Agree cat xs cs) where
   -- ---- a write
 
   module _ (cells : List ℕ) where
-    tables-refusal : (k t : ℕ) → t + k ≡ cat .n → tablesRefusal k cat′ cells t ≡ tablesRefusal k cat cells t
-    unfolding tablesRefusal
-    tables-refusal zero t h = refl
-    tables-refusal (suc k) t h =
-        rw (first-same t (omega arith), A .schemes t (omega arith), A .rows t (omega arith), tables-refusal k (t + 1) (omega arith)) refl
+    cells-fault : (k t : ℕ) → t + k ≡ cat .n → cellsFault k cat′ cells t ≡ cellsFault k cat cells t
+    unfolding cellsFault
+    cells-fault zero t h = refl
+    cells-fault (suc k) t h =
+        rw (first-same t (omega arith), A .schemes t (omega arith), A .rows t (omega arith), cells-fault k (t + 1) (omega arith)) refl
 
     tables-image : (k t : ℕ) → t + k ≡ cat .n → tablesImage k cat′ cells t ≡ tablesImage k cat cells t
     unfolding tablesImage
@@ -243,7 +252,7 @@ module _ (cat : Catalogue) (xs cs : List ℕ) (A : Agree cat xs cs) where
 
     write-fault : writeFault cat′ cells ≡ writeFault cat cells
     unfolding writeFault
-    write-fault = rw (tables-refusal (cat .n) 0 (omega arith)) refl
+    write-fault = rw (fault-same (length cells), cells-fault (cat .n) 0 (omega arith)) refl
 
     written-same : (room : ℕ) → written cat′ cells room ≡ written cat cells room
     unfolding written lengthFault
@@ -271,7 +280,13 @@ ignored =
     record {
       opens = open-same;
       calls = call-same;
-      writes = λ cat xs cs A cells room. (written-same cat xs cs A cells room, image-same cat xs cs A cells);
-      zeros = λ cat. record { schemes = front-same (cat .n) (cat .schemes); rows = front-same (cat .n) (cat .rows) };
+      writes = λ cat xs cs ps ms A cells room. (written-same cat xs cs ps ms A cells room, image-same cat xs cs ps ms A cells);
+      zeros = λ cat.
+          record {
+            schemes = front-same (cat .n) (cat .schemes);
+            rows = front-same (cat .n) (cat .rows);
+            places = front-same (cat .n) (cat .places);
+            touching = front-same (cat .n) (cat .touching);
+          };
       loads = λ s lent after r by l good. load-trimmed s lent (r .catalogue) by (sym (l .answer) ∙ found-good r good) .2;
     }

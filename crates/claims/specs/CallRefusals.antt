@@ -16,6 +16,7 @@ use Rattle.disjunction.specs.Sets.{at}
 use Rattle.disjunction.specs.Asked.{Asked, everySet, everyWith}
 use Rattle.store.specs.Store as stores
 use Rattle.store.specs.Store.{Store, storeIn, roomIn, linkOf}
+use Rattle.claims.specs.CatalogueRefusals.{OfCatalogue}
 use Rattle.machine.specs.Machine.{State, keyAt, keyDue, deepest, done, trialDue, trialOn, aSet, finished, working, refused, Called, Askable, Fit, Opened}
 
 -- ---- a search, look by look
@@ -120,7 +121,7 @@ module _ (cat : Catalogue) (cells : List ℕ) where
     pub at-work : (step b q row .says ≡ working) ↔ (Ready q row × ((p : State) × WorksTo b q 0 p × TrialDue p))
     -- and no other.
     pub no-other : (k : ℕ) → step b q row .says ≡ refused k
-        → ((k ≡ 4) ⊎ (k ≡ 5) ⊎ (k ≡ 6) ⊎ (k ≡ 8)) ⊎ (k ≡ 13) ⊎ (k ≡ 11) ⊎ (k ≡ 12) ⊎ (k ≡ 14)
+        → OfCatalogue k ⊎ (k ≡ 13) ⊎ (k ≡ 11) ⊎ (k ≡ 12) ⊎ (k ≡ 14)
 
   -- "A stream refused at work stands exactly after its last finished trial": what call s, made in state q with budget b, then is. The trials are the
   -- rule's, so many as it gives, and no more than its budget; the state is the one behind them, and the row tests and looks are theirs.
@@ -142,4 +143,4 @@ module _ (cat : Catalogue) (cells : List ℕ) where
     pub none : (begin low high left right .refusal ≡ 0)
         ↔ (Lawful cat (length cells) × Askable cat asked × (0 < total cat → 0 < roomIn (storeIn low high left right 0)))
     -- and no other.
-    pub no-other : (k : ℕ) → begin low high left right .refusal ≡ k → (k ≡ 0) ⊎ ((k ≡ 4) ⊎ (k ≡ 5) ⊎ (k ≡ 6) ⊎ (k ≡ 8)) ⊎ (k ≡ 19) ⊎ (k ≡ 12)
+    pub no-other : (k : ℕ) → begin low high left right .refusal ≡ k → (k ≡ 0) ⊎ OfCatalogue k ⊎ (k ≡ 19) ⊎ (k ≡ 12)

@@ -10,12 +10,13 @@ use Rattle.disjunction.specs.Asked.{Asked, everySet, everyWith}
 use Rattle.loader.specs.declared.Fault.{Fault}
 use Rattle.loader.specs.declared.Verdict.the-variants.{Good, Refused}
 use Rattle.writer.specs.declared.Written.the-variants as Written
-use Rattle.loader.specs.Load.{noCatalogue, scanOf}
+use Rattle.tables.specs.Catalogues.{noTables}
+use Rattle.loader.specs.Load.{scanOf}
 use Rattle.writer.specs.Write.{written}
 use Rattle.machine.specs.Machine.{State, Says, aSet, finished, working, refused, Called, callFault, call, Opened, zeros, openingFor}
 use Rattle.stream.specs.Promises.{stateOf, holdingStateOf}
-use Rattle.abi.specs.Words.{catalogueWords, wordsOf, catalogueIn}
-use Rattle.abi.specs.Calls.{tooFewWords, LoadCall, WriteCall}
+use Rattle.abi.specs.Words.{catalogueWords, tableWords, wordsOf, catalogueIn}
+use Rattle.abi.specs.Calls.{tooFewWords, LoadCall, madeIn, MakeCall, WriteCall}
 use Rattle.abi.specs.Lists.{verdictWord, verdictWords, ListCall}
 use Rattle.hub.specs.declared.ListVerdict.{ListVerdict}
 use Rattle.hub.specs.declared.ListVerdict.the-variants as Hub
@@ -70,7 +71,13 @@ pub record AbiExact : Type 0 where
   -- looked at (#107).
   pub load-refused : (image cells words looked : List ℕ) (r : ℕ) (cells′ words′ looked′ : List ℕ) → LoadCall image cells words looked r cells′ words′ looked′ → catalogueWords ≤ length words
       → (f : Fault) → scanOf image (length cells) .verdict ≡ Refused f
-      → (r % 32 ≡ f .refusal) × (r / 32 ≡ f .place) × (cells′ ≡ cells) × (words′ ≡ put (wordsOf noCatalogue) words) × (looked′ ≡ set looked 0 (f .looked))
+      → (r % 32 ≡ f .refusal) × (r / 32 ≡ f .place) × (cells′ ≡ cells) × (words′ ≡ put (wordsOf noTables) words) × (looked′ ≡ set looked 0 (f .looked))
+  pub make-few : (given words : List ℕ) (r : ℕ) (words′ : List ℕ) → MakeCall given words r words′
+      → (r ≡ tooFewWords) ↔ ((length given < tableWords) ⊎ (length words < catalogueWords))
+  -- A catalogue that is made: the refusal is the answer, and the words are those of the catalogue that the library's own call gives.
+  pub make-told : (given words : List ℕ) (r : ℕ) (words′ : List ℕ) → MakeCall given words r words′
+      → ((length given < tableWords) ⊎ (length words < catalogueWords) → ⊥)
+      → (r ≡ madeIn given .refusal) × (words′ ≡ put (wordsOf (madeIn given .catalogue)) words)
   pub write-few : (words cells out : List ℕ) (r : ℕ) (out′ : List ℕ) → WriteCall words cells out r out′ → (r ≡ tooFewWords) ↔ (length words < catalogueWords)
   pub write-length : (words cells out : List ℕ) (r : ℕ) (out′ : List ℕ) → WriteCall words cells out r out′ → catalogueWords ≤ length words
       → (n : ℕ) → written (catalogueIn words) cells (length out) ≡ Written.Length n → (r % 32 ≡ 0) × (r / 32 ≡ n)

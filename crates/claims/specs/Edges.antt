@@ -7,6 +7,7 @@ use mathlib.Core.List.{List, [], _∷_}
 use lib.ListN.{length, replicate}
 use Rattle.laws.specs.Lists.{put}
 use Rattle.tables.specs.declared.Catalogue.{Catalogue}
+use Rattle.tables.specs.Catalogues.{filled, given}
 use Rattle.tables.specs.Sample.{sampleBytes, three, threeCells}
 use Rattle.tables.specs.Sizes.{mostCells}
 use Rattle.rows.specs.World.{fitsIn}
@@ -35,7 +36,7 @@ saysIn (s ∷ l) = s .says ∷ saysIn l
 
 -- Two tables over the one attribute 0, each with one row.
 abbrev pub pair : Catalogue
-pair = record { m = 1; n = 2; schemes = 1 ∷ 1 ∷ replicate 6 0; rows = 1 ∷ 1 ∷ replicate 6 0 }
+pair = filled (given 1 2 (1 ∷ 1 ∷ replicate 6 0) (1 ∷ 1 ∷ replicate 6 0))
 
 -- The list.
 pub record Edges : Type 0 where

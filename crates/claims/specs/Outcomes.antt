@@ -5,6 +5,8 @@ use mathlib.Core.Path.{_≡_}
 use mathlib.Core.Bool.{Bool}
 use mathlib.Core.List.{List}
 use Rattle.tables.specs.declared.Catalogue.{Catalogue}
+use Rattle.tables.specs.declared.Made.{Made}
+use Rattle.tables.specs.Checks.{Makes}
 use Rattle.loader.specs.declared.Loaded.{Loaded}
 use Rattle.writer.specs.declared.Written.{Written}
 use Rattle.loader.specs.Load.{Loads}
@@ -22,13 +24,14 @@ use Rattle.hub.specs.declared.ListVerdict.{ListVerdict}
 use Rattle.hub.specs.Promises.{ChecksList}
 use Rattle.harbour.specs.declared.NextAnswer.{NextAnswer}
 use Rattle.harbour.specs.Answers.{Nexts, NextsHolding}
-use Rattle.abi.specs.Calls.{LoadCall, WriteCall, CoversCall}
+use Rattle.abi.specs.Calls.{LoadCall, MakeCall, WriteCall, CoversCall}
 use Rattle.abi.specs.Lists.{ListCall}
 use Rattle.abi.specs.Streams.{OpenCall, NextCall, OpenHoldingCall, NextHoldingCall}
 
 -- One field for each public call: two outcomes that meet its promise are one.
 pub record OneOutcome : Type 0 where
   pub load : (s lent : List ℕ) (r r′ : Loaded) (after after′ : List ℕ) → Loads s lent r after → Loads s lent r′ after′ → (r ≡ r′) × (after ≡ after′)
+  pub «make_catalogue» : (m n : ℕ) (schemes rows : List ℕ) (r r′ : Made) → Makes m n schemes rows r → Makes m n schemes rows r′ → r ≡ r′
   pub write : (cat : Catalogue) (cells lent : List ℕ) (r r′ : Written) (after after′ : List ℕ)
       → Writes cat cells lent r after → Writes cat cells lent r′ after′ → (r ≡ r′) × (after ≡ after′)
   pub «open» : (cat : Catalogue) (cells keys left right : List ℕ) (r r′ : OpenAnswer) (ks ls rs ks′ ls′ rs′ : List ℕ)
@@ -60,6 +63,8 @@ pub record OneOutcome : Type 0 where
   -- The calls for C.
   pub «harbour_load» : (image cells words looked : List ℕ) (r r′ : ℕ) (cs ws ls cs′ ws′ ls′ : List ℕ)
       → LoadCall image cells words looked r cs ws ls → LoadCall image cells words looked r′ cs′ ws′ ls′ → (r ≡ r′) × (cs ≡ cs′) × (ws ≡ ws′) × (ls ≡ ls′)
+  pub «harbour_make_catalogue» : (given words : List ℕ) (r r′ : ℕ) (ws ws′ : List ℕ)
+      → MakeCall given words r ws → MakeCall given words r′ ws′ → (r ≡ r′) × (ws ≡ ws′)
   pub «harbour_write» : (words cells out : List ℕ) (r r′ : ℕ) (o o′ : List ℕ)
       → WriteCall words cells out r o → WriteCall words cells out r′ o′ → (r ≡ r′) × (o ≡ o′)
   pub «harbour_open» : (catalogue cells keys left right words : List ℕ) (r r′ : ℕ) (ks ls rs ws ks′ ls′ rs′ ws′ : List ℕ)

@@ -10,7 +10,8 @@ use Rattle.loader.specs.declared.Fault.{Fault}
 use Rattle.loader.specs.declared.Verdict.the-variants.{Refused}
 use Rattle.loader.specs.declared.Loaded.{Loaded}
 use Rattle.writer.specs.declared.Written.the-variants as Written
-use Rattle.loader.specs.Load.{noCatalogue, Loads}
+use Rattle.tables.specs.Catalogues.{noTables}
+use Rattle.loader.specs.Load.{Loads}
 use Rattle.writer.specs.Write.{Writes}
 use Rattle.machine.specs.Machine.{callFault}
 use Rattle.stream.specs.declared.StreamRecord.{StreamRecord}
@@ -20,7 +21,7 @@ use Rattle.stream.specs.Promises.{stateOf, Opens, Steps}
 
 -- Of every call that was refused, whatever by.
 pub record Unchanged : Type 0 where
-  pub load : (s lent after : List ℕ) (r : Loaded) (f : Fault) → Loads s lent r after → r .verdict ≡ Refused f → (r .catalogue ≡ noCatalogue) × (after ≡ lent)
+  pub load : (s lent after : List ℕ) (r : Loaded) (f : Fault) → Loads s lent r after → r .verdict ≡ Refused f → (r .catalogue ≡ noTables) × (after ≡ lent)
   pub write : (cat : Catalogue) (cells lent after : List ℕ) (k : ℕ) → Writes cat cells lent (Written.Refused k) after → after ≡ lent
   pub «open» : (cat : Catalogue) (cells keys left right : List ℕ) (o : OpenAnswer) (ks ls rs : List ℕ) → Opens cat cells keys left right o ks ls rs
       → (o .refusal ≡ 0 → ⊥) → (o .stream ≡ record { found = 0; taken = 0; «next_row» = 0 }) × (ks ≡ keys) × (ls ≡ left) × (rs ≡ right)

@@ -1,6 +1,7 @@
-// The public calls of the library: load and write an image, open a stream and move it on, check a list of sets, and ask whether one padded row covers another.
+// The public calls of the library: load and write an image, make a catalogue, open a stream and move it on, check a list of sets, and ask whether one padded row covers another.
 // None asks anything of its caller, and each promise stands here once: one outcome for every input, refusals too.
 ghost use Rattle.padding.specs.Covering.{Covers};
+ghost use Rattle.tables.specs.Checks.{Makes};
 ghost use Rattle.loader.specs.Load.{Loads};
 ghost use Rattle.writer.specs.Write.{Writes};
 ghost use Rattle.stream.specs.Promises.{Opens, Steps, OpensHolding, StepsHolding};
@@ -18,6 +19,7 @@ pub use stream::OpenAnswer;
 pub use stream::StepAnswer;
 pub use stream::StreamRecord;
 pub use tables::Catalogue;
+pub use tables::Made;
 pub use writer::Written;
 
 // What the thin call answers: the answer, the key of a set (else 0), its trials, row tests and looks.
@@ -36,6 +38,14 @@ pub fn load(image: &[u8], cells: &mut [u64]) -> Loaded
     ensures { λ r. ⌜ Loads (now (image .entry)) (now (cells .entry)) r (now (cells .exit)) ⌝ }
 {
     loader::load(image, cells)
+}
+
+// Makes the catalogue of tables made by hand from m, n, schemes and row counts: places and masks are worked out.
+// The answer is the first of 4, 5, 6 and 8 (of 8,192 cells) with a catalogue of zeros, or 0 with the catalogue.
+pub fn make_catalogue(m: usize, n: usize, schemes: [u64; 8], rows: [u16; 8]) -> Made
+    ensures { λ r. ⌜ Makes m n schemes rows r ⌝ }
+{
+    tables::make_catalogue(m, n, schemes, rows)
 }
 
 // Writes the image of the tables into the front of the lent bytes, and gives its length.

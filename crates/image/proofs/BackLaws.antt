@@ -11,15 +11,17 @@ use lib.Count.{ones}
 use lib.Dec.{ltb}
 use borrow.Author.Tests.{lt-leb, ltb-false}
 use Rattle.laws.specs.Lists.{part}
+use Rattle.laws.proofs.TestLaws.{or-none}
 use Rattle.numbers.specs.Numbers.{encode, decode}
 use Rattle.numbers.proofs.RoundTrip.{encode-decode}
 use Rattle.tables.specs.declared.Catalogue.{Catalogue}
-use Rattle.tables.specs.Catalogues.{schemeOf, countOf, firstCell}
+use Rattle.tables.specs.Catalogues.{schemeOf, countOf, firstCell, filled, given}
 use Rattle.tables.specs.Sizes.{mostAttributes, mostTables, version}
 use Rattle.tables.specs.Rows.{below}
-use Rattle.tables.specs.Checks.{outside, tableFault}
+use Rattle.tables.specs.Checks.{outside, sizeFault, tableFault, tablesFault, Lawful}
 use Rattle.tables.proofs.CatalogueLaws.{cells-next}
-use Rattle.tables.proofs.CheckLaws.{faultAt, table-count, fault-clear, InRange}
+use Rattle.tables.proofs.CheckLaws.{faultAt, table-count, fault-clear, tables-none, tables-more, InRange, inside, size-good, shape-split}
+use Rattle.tables.proofs.StoredLaws.{stored-lawful}
 use Rattle.loader.specs.declared.Walk.the-variants.{To}
 use Rattle.loader.specs.declared.Fault.{Fault}
 use Rattle.loader.specs.declared.Field.{Field}
@@ -29,12 +31,12 @@ use Rattle.loader.specs.declared.Entry.the-variants.{Table, TableFault}
 use Rattle.loader.specs.declared.Loaded.{Loaded}
 use Rattle.loader.specs.Reading.{refusalAt, runEnd, codes, rowsFrom}
 use Rattle.loader.specs.Load.{firstTable, fieldAt, onField, tableAt, onEntry, refused, tablesFrom, scanOf, tablesCodes}
-use Rattle.writer.specs.Write.{encodes, cellsOf, tablesImage, tooHigh, rowsFault, tablesRefusal}
+use Rattle.writer.specs.Write.{encodes, cellsOf, tablesImage, tooHigh, rowsFault, rowsRefusal, cellsFault}
 use Rattle.image.specs.RoundTrip.{front, trimmed, found}
 use Rattle.loader.proofs.LoadLaws.{GoodTable, good-table}
-use Rattle.writer.proofs.AcceptLaws.{rowsAt, refusal-none, refusal-more}
+use Rattle.writer.proofs.AcceptLaws.{cells-none, cells-more}
 use Rattle.loader.proofs.ReadingLaws.{number-was, run-was, run-add, rows-was, rows-run, row-cells}
-use Rattle.image.proofs.ThereLaws.{part-stands, or-clear, one-byte, table-codes}
+use Rattle.image.proofs.ThereLaws.{part-stands, one-byte, table-codes}
 
 -- ---- an answer that is no refusal came by the way that goes on
 
@@ -140,27 +142,32 @@ kept-front l n h K =
     getD-replicate (mostTables - n) i 0 0 few ∙ sym (getD-drop n l i 0 ∙ K .same (n + i) (inr (omega arith)) ∙ getD-replicate mostTables (n + i) 0 0 (omega arith))) in
     rw zeros (take-append-drop n l)
 
--- A good answer has the m and n given, and keeps the entries that no table sets.
+-- The catalogue with its places and masks worked out anew.
+abbrev refilled : Catalogue → Catalogue
+refilled cat = filled (given (cat .m) (cat .n) (cat .schemes) (cat .rows))
+
+-- A good answer has the m and n given, keeps the entries that no table sets, and is filled.
 record Keeps (cat : Catalogue) (m n t k : ℕ) (xs cs : List ℕ) : Type 0 where
   m-is : cat .m ≡ m
   n-is : cat .n ≡ n
   schemes : Kept (cat .schemes) xs t k
   rows : Kept (cat .rows) cs t k
+  stored : cat ≡ refilled cat
 
 keeps-trimmed : (cat : Catalogue) (m n : ℕ) → n ≤ mostTables → Keeps cat m n 0 n (replicate mostTables 0) (replicate mostTables 0) → trimmed cat ≡ cat
 keeps-trimmed cat m n h K =
     let few : cat .n ≤ mostTables = omega (arith, K .n-is) in
     let xs = kept-front (cat .schemes) (cat .n) few (rw (← K .n-is) at (K .schemes)) in
     let cs = kept-front (cat .rows) (cat .n) few (rw (← K .n-is) at (K .rows)) in
-    rw (xs, cs)
+    rw (xs, cs) (sym (K .stored))
 
 module _ (s : List ℕ) (room m n : ℕ) (cat : Catalogue) where
   -- Behind the last table nothing lies, and the catalogue is the one given.
   end-was : (t used : ℕ) (xs cs : List ℕ) (i : ℕ) → tablesFrom zero s room m n t used xs cs i ≡ found cat
-      → (length s ≤ i) × (cat ≡ record { m = m; n = n; schemes = xs; rows = cs })
+      → (length s ≤ i) × (cat ≡ filled (given m n xs cs))
   unfolding tablesFrom
   end-was t used xs cs i q =
-      let c = cond-was (found cat) (ltb i (length s)) (refused (refusalAt 9 i 0)) (found (record { m = m; n = n; schemes = xs; rows = cs })) (no-good (refusalAt 9 i 0) cat) q in
+      let c = cond-was (found cat) (ltb i (length s)) (refused (refusalAt 9 i 0)) (found (filled (given m n xs cs))) (no-good (refusalAt 9 i 0) cat) q in
       (ltb-false i (length s) (c .0), sym (ap (λ (l : Loaded). l .catalogue) (c .1)))
 
   more-was : {P : Type 0} (k t used : ℕ) (xs cs : List ℕ) (i : ℕ) → tablesFrom (suc k) s room m n t used xs cs i ≡ found cat
@@ -177,12 +184,19 @@ module _ (s : List ℕ) (room m n : ℕ) (cat : Catalogue) where
         n-is = ap (λ (d : Catalogue). d .n) e;
         schemes = kept-all t (ap (λ (d : Catalogue). d .schemes) e);
         rows = kept-all t (ap (λ (d : Catalogue). d .rows) e);
+        stored = e ∙ sym (ap refilled e);
       }
   keeps (suc k) t used xs cs i q =
       more-was k t used xs cs i q
       (λ x c u e d g.
       let K = keeps k (t + 1) u (set xs t x) (set cs t c) e g in
-      record { m-is = K .m-is; n-is = K .n-is; schemes = kept-set (cat .schemes) xs t k x (K .schemes); rows = kept-set (cat .rows) cs t k c (K .rows) })
+      record {
+        m-is = K .m-is;
+        n-is = K .n-is;
+        schemes = kept-set (cat .schemes) xs t k x (K .schemes);
+        rows = kept-set (cat .rows) cs t k c (K .rows);
+        stored = K .stored;
+      })
 
 -- ---- the tables
 
@@ -252,23 +266,29 @@ module _ (s : List ℕ) (by : (k : ℕ) → getD s k 0 < 256) (room : ℕ) (cat 
 
   -- Where the codes from table t on lie in the cells: the table's cells are its codes, no row is refused, and behind them lie the later codes.
   table-back : (cells r : List ℕ) (k t i e : ℕ) (b : TableRead s room cat t i e) → drop (firstCell cat t) cells ≡ tablesCodes (suc k) s i ++ r
-      → (cellsOf cat cells t ≡ codes (cellCount cat t) s (b .q)) × (rowsAt cat cells t ≡ 0) × (drop (firstCell cat (t + 1)) cells ≡ tablesCodes k s e ++ r)
+      → (cellsOf cat cells t ≡ codes (cellCount cat t) s (b .q)) × (rowsRefusal cat cells t ≡ 0) × (drop (firstCell cat (t + 1)) cells ≡ tablesCodes k s e ++ r)
   table-back cells r k t i e b d =
       let all : drop (firstCell cat t) cells ≡ codes (cellCount cat t) s (b .q) ++ (tablesCodes k s e ++ r) = d ∙ rw (b .all k) (append-assoc (codes (cellCount cat t) s (b .q)) (tablesCodes k s e) r) in
       let here = part-stands cells (firstCell cat t) (cellCount cat t) (codes (cellCount cat t) s (b .q)) (tablesCodes k s e ++ r) (b .long) all in
       let rows = rows-back s by (countOf cat t) (ones (schemeOf cat t)) cells true 0 (firstCell cat t) 0 (b .q) e (tablesCodes k s e ++ r) (b .rows) (λ ys. refl) all in
       (here .0, rows, rw (cells-next cat t) (here .1))
 
-  -- There the writer makes of the tables the bytes that were read, and refuses none.
-  pub tables-back : (cells r : List ℕ) (k t i : ℕ) → length cells ≡ room → Tables s room cat k t i → drop (firstCell cat t) cells ≡ tablesCodes k s i ++ r
-      → (drop i s ≡ tablesImage k cat cells t) × (tablesRefusal k cat cells t ≡ 0)
+  -- No table is refused,
+  pub tables-clear : (k t i : ℕ) → Tables s room cat k t i → tablesFault k cat room t ≡ 0
+  tables-clear zero t i T = tables-none cat room 0 t (omega arith)
+  tables-clear (suc k) t i (more {e = e} h T) =
+      tables-more cat room (suc k) k t refl (table-read t i (firstCell cat (t + 1)) e h .clear) ∙ tables-clear k (t + 1) e T
+
+  -- nor a row of theirs, where their codes lie in the cells; and there the writer makes of the tables the bytes that were read.
+  pub tables-back : (cells r : List ℕ) (k t i : ℕ) → Tables s room cat k t i → drop (firstCell cat t) cells ≡ tablesCodes k s i ++ r
+      → (drop i s ≡ tablesImage k cat cells t) × (cellsFault k cat cells t ≡ 0)
   unfolding tablesImage
-  tables-back cells r zero t i l (none h) d = (drop-of-length-le s h, refusal-none cat cells 0 t (omega arith))
-  tables-back cells r (suc k) t i l (more {e = e} h T) d =
+  tables-back cells r zero t i (none h) d = (drop-of-length-le s h, cells-none cat cells 0 t (omega arith))
+  tables-back cells r (suc k) t i (more {e = e} h T) d =
       let b = table-read t i (firstCell cat (t + 1)) e h in
       let c = table-back cells r k t i e b d in
-      let later = tables-back cells r k (t + 1) e l T (c .2) in
-      (rw (c .0, ← later .0) (b .bytes), refusal-more cat cells (suc k) k t refl (rw l (b .clear)) (c .1) ∙ later .1)
+      let later = tables-back cells r k (t + 1) e T (c .2) in
+      (rw (c .0, ← later .0) (b .bytes), cells-more cat cells (suc k) k t refl (c .1) ∙ later .1)
 
 -- ---- the head
 
@@ -281,7 +301,7 @@ record FieldBack (s : List ℕ) (i low high x n : ℕ) : Type 0 where
 
 inside-was : (low high x : ℕ) → outside low high x ≡ false → (low ≤ x) × (x ≤ high)
 inside-was low high x e =
-    let c = or-clear (ltb x low) (ltb high x) e in
+    let c = or-none (ltb x low) (ltb high x) e in
     (ltb-false x low (c .0), ltb-false high x (c .1))
 
 field-back : (s : List ℕ) → ((k : ℕ) → getD s k 0 < 256) → (i low high f x n : ℕ) → high < 128 → fieldAt s i low high f ≡ Value x n → FieldBack s i low high x n
@@ -305,24 +325,31 @@ pub record ScanBack (s : List ℕ) (room : ℕ) (cat : Catalogue) : Type 0 where
   pub schemes : length (cat .schemes) ≡ mostTables
   pub rows : length (cat .rows) ≡ mostTables
   pub trim : trimmed cat ≡ cat
+  pub lawful : Lawful cat room
 
-head-back : (s : List ℕ) (room v i m j n k : ℕ) (cat : Catalogue) → FieldBack s 0 version version v i → FieldBack s i 1 mostAttributes m j → FieldBack s j 1 mostTables n k
+range-good : {m n : ℕ} → InRange m n → sizeFault m n ≡ 0
+range-good {m = m} {n = n} R = size-good m n (inside 1 mostAttributes m (R .m-low) (R .m-high)) (inside 1 mostTables n (R .n-low) (R .n-high))
+
+head-back : (s : List ℕ) → ((k : ℕ) → getD s k 0 < 256) → (room v i m j n k : ℕ) (cat : Catalogue) → FieldBack s 0 version version v i → FieldBack s i 1 mostAttributes m j → FieldBack s j 1 mostTables n k
     → tablesFrom n s room m n 0 0 (replicate mostTables 0) (replicate mostTables 0) k ≡ found cat → ScanBack s room cat
 unfolding firstCell
-head-back s room v i m j n k cat a b c e =
+head-back s by room v i m j n k cat a b c e =
     let K = keeps s room m n cat n 0 0 (replicate mostTables 0) (replicate mostTables 0) k e in
     let ev : v ≡ version = omega (arith, a .above, a .under) in
     let ek : k ≡ firstTable = omega (arith, a .next, b .next, c .next) in
     let all : s ≡ encode v ++ (encode m ++ (encode n ++ drop k s)) = a .bytes ∙ ap (λ (l : List ℕ). encode v ++ l) (b .bytes ∙ ap (λ (l : List ℕ). encode m ++ l) (c .bytes)) in
     let same-m = subst (λ (x : ℕ). tablesFrom n s room x n 0 0 (replicate mostTables 0) (replicate mostTables 0) k ≡ found cat) (sym (K .m-is)) e in
     let T = tables-were s room n cat n 0 (replicate mostTables 0) (replicate mostTables 0) k (omega (arith, c .under)) (omega (arith, c .under)) same-m in
+    let R : InRange (cat .m) (cat .n) = rw (K .m-is, K .n-is) (record { m-low = b .above; m-high = b .under; n-low = c .above; n-high = c .under }) in
+    let clear : tablesFault (cat .n) cat room 0 ≡ 0 = subst (λ (x : ℕ). tablesFault x cat room 0 ≡ 0) (sym (K .n-is)) (tables-clear s by room cat n 0 k T) in
     record {
-      range = rw (K .m-is, K .n-is) (record { m-low = b .above; m-high = b .under; n-low = c .above; n-high = c .under });
+      range = R;
       bytes = rw (ev, ← K .m-is, ← K .n-is, ek) at all;
       tables = rw (← K .n-is, ek) at T;
       schemes = K .schemes .long;
       rows = K .rows .long;
       trim = keeps-trimmed cat m n (c .under) K;
+      lawful = stored-lawful cat (given (cat .m) (cat .n) (cat .schemes) (cat .rows)) room (K .stored) (shape-split cat room .1 (range-good R, clear));
     }
 
 pub scan-back : (s : List ℕ) → ((k : ℕ) → getD s k 0 < 256) → (room : ℕ) (cat : Catalogue) → scanOf s room ≡ found cat → ScanBack s room cat
@@ -333,5 +360,5 @@ scan-back s by room cat e =
     (λ v i a ea. field-was (fieldAt s i 1 mostAttributes 4) (λ m j. onField (fieldAt s j 1 mostTables 4) (last m)) cat ea
     (λ m j b eb. field-was (fieldAt s j 1 mostTables 4) (last m) cat eb
     (λ n k c ec.
-    head-back s room v i m j n k cat (field-back s by 0 version version 3 v i (omega arith) a) (field-back s by i 1 mostAttributes 4 m j (omega arith) b)
+    head-back s by room v i m j n k cat (field-back s by 0 version version 3 v i (omega arith) a) (field-back s by i 1 mostAttributes 4 m j (omega arith) b)
     (field-back s by j 1 mostTables 4 n k (omega arith) c) ec)))

@@ -1,28 +1,29 @@
 -- The two round trips of the image format: loading what was written gives the same tables, and writing what was loaded gives the same bytes.
 -- Each is carried by its own file of laws, ThereLaws and BackLaws. Assumes nothing.
-use Prim.Native.Nat.{ℕ, zero, suc, _<_, _≤_}
+use Prim.Native.Nat.{ℕ, zero, suc, _-_, _<_, _≤_}
 use native.Mathlib.Omega.{arith}
 use mathlib.Core.Path.{_≡_, refl, sym, ap, _∙_}
 use mathlib.Core.List.{List, _++_}
-use lib.ListN.{length, getD, take, drop}
+use lib.ListN.{length, getD, take, drop, replicate, length-take, take-append-drop, List·getD-append}
 use lib.Seq.{take-at}
 use borrow.Author.Tests.{le-ltb}
 use Rattle.laws.specs.Lists.{put}
 use Rattle.laws.proofs.ListLaws.{length-put}
 use Rattle.numbers.specs.Numbers.{encode}
 use Rattle.tables.specs.declared.Catalogue.{Catalogue}
-use Rattle.tables.specs.Sizes.{mostAttributes, mostTables, version}
-use Rattle.tables.specs.Catalogues.{firstCell}
-use Rattle.tables.specs.Checks.{firstOf, sizeFault, catalogueFault, Lawful}
-use Rattle.tables.proofs.CheckLaws.{first-none, first-clear, inside, size-good, lawful-fault}
+use Rattle.tables.specs.Sizes.{mostTables, version}
+use Rattle.tables.specs.Catalogues.{schemeOf, countOf, firstCell, touch, touchingBelow, touchingOf, given, placeIn, maskIn}
+use Rattle.tables.specs.Checks.{firstOf, catalogueFault, Lawful}
+use Rattle.tables.proofs.CheckLaws.{first-none, first-clear, lawful-fault}
+use Rattle.tables.proofs.StoredLaws.{for-at}
 use Rattle.loader.specs.declared.Verdict.{Verdict}
 use Rattle.loader.specs.declared.Verdict.the-variants.{Good}
 use Rattle.loader.specs.declared.Loaded.{Loaded}
 use Rattle.writer.specs.declared.Written.{Written}
 use Rattle.writer.specs.declared.Written.the-variants.{Length}
 use Rattle.loader.specs.Load.{firstTable, scanOf, tablesCodes, cellsAfter, Loads}
-use Rattle.writer.specs.Write.{tablesImage, imageOf, tablesRefusal, writeFault, Accepted, lengthFault, writtenOf, written, Writes}
-use Rattle.image.specs.RoundTrip.{trimmed, found, loadedCells}
+use Rattle.writer.specs.Write.{tablesImage, imageOf, cellsFault, writeFault, Accepted, lengthFault, writtenOf, written, Writes}
+use Rattle.image.specs.RoundTrip.{front, trimmed, found, loadedCells}
 use Rattle.writer.proofs.AcceptLaws.{fault-accepted, accepted-fault}
 use Rattle.image.proofs.ThereLaws.{scan-there, codes-there}
 use Rattle.image.proofs.BackLaws.{ScanBack, scan-back, tables-fit, tables-back}
@@ -64,34 +65,31 @@ module _ (s lent : List ℕ) (cat : Catalogue) (by : (k : ℕ) → getD s k 0 < 
       let f = tables-fit s by (length lent) cat (cat .n) 0 firstTable (cat .n) (omega arith) (omega arith) (read .tables) in
       length-put (tablesCodes (cat .n) s firstTable) lent (omega (arith, f .0, f .1))
 
-  tables-again : (drop firstTable s ≡ tablesImage (cat .n) cat (loadedCells cat s lent) 0) × (tablesRefusal (cat .n) cat (loadedCells cat s lent) 0 ≡ 0)
+  tables-again : (drop firstTable s ≡ tablesImage (cat .n) cat (loadedCells cat s lent) 0) × (cellsFault (cat .n) cat (loadedCells cat s lent) 0 ≡ 0)
   unfolding firstCell
   tables-again =
       let codes = tablesCodes (cat .n) s firstTable in
-      tables-back s by (length lent) cat (loadedCells cat s lent) (drop (length codes) lent) (cat .n) 0 firstTable load-length (read .tables) refl
+      tables-back s by (length lent) cat (loadedCells cat s lent) (drop (length codes) lent) (cat .n) 0 firstTable (read .tables) refl
 
-  size-again : sizeFault (cat .m) (cat .n) ≡ 0
-  size-again =
-      let R = read .range in
-      size-good (cat .m) (cat .n) (inside 1 mostAttributes (cat .m) (R .m-low) (R .m-high)) (inside 1 mostTables (cat .n) (R .n-low) (R .n-high))
+  -- The tables are lawful and without fault.
+  pub load-lawful : Lawful cat (length lent)
+  load-lawful = read .lawful
+
+  pub load-clear : catalogueFault cat (length lent) ≡ 0
+  load-clear = lawful-fault cat (length lent) load-lawful
 
   -- The writer refuses them for no reason but room, and makes the same bytes of them.
   pub write-loaded : (writeFault cat (loadedCells cat s lent) ≡ 0) × (imageOf cat (loadedCells cat s lent) ≡ s)
   unfolding writeFault imageOf
   write-loaded = (
-    first-none (sizeFault (cat .m) (cat .n)) (tablesRefusal (cat .n) cat (loadedCells cat s lent) 0) size-again ∙ tables-again .1,
+    first-none (catalogueFault cat (length (loadedCells cat s lent))) (cellsFault (cat .n) cat (loadedCells cat s lent) 0) (rw load-length load-clear)
+        ∙ tables-again .1,
     ap (λ (l : List ℕ). encode version ++ (encode (cat .m) ++ (encode (cat .n) ++ l))) (sym (tables-again .0)) ∙ sym (read .bytes),
   )
 
-  -- So they are accepted, lawful and without fault.
+  -- So they are accepted.
   pub load-accepted : Accepted cat (loadedCells cat s lent)
   load-accepted = fault-accepted cat (loadedCells cat s lent) (write-loaded .0)
-
-  pub load-lawful : Lawful cat (length lent)
-  load-lawful = rw load-length at (load-accepted .lawful)
-
-  pub load-clear : catalogueFault cat (length lent) ≡ 0
-  load-clear = lawful-fault cat (length lent) load-lawful
 
   -- "eight schemes and eight row counts. Entries from n on .. are 0 after a load."
   pub load-trimmed : (length (cat .schemes) ≡ mostTables) × (length (cat .rows) ≡ mostTables) × (trimmed cat ≡ cat)
@@ -146,3 +144,40 @@ module _ (s lent after : List ℕ) (r : Loaded) (by : (k : ℕ) → getD s k 0 <
       let clear = accepted-fault (r .catalogue) after loads-accepted in
       let answer : w ≡ Length (length s) = h .answer ∙ written-clear (r .catalogue) after (length out) clear (rw image fits) ∙ rw image in
       (answer, h .bytes ∙ rw (answer, image))
+
+-- ---- trimmed
+
+-- The entries below n are the same,
+front-at : (n : ℕ) (l : List ℕ) (t : ℕ) → t < n → n ≤ length l → getD (front n l) t 0 ≡ getD l t 0
+unfolding front
+front-at n l t h k =
+    let b : t < length (take n l) = rw (length-take n l) (omega arith) in
+    List·getD-append (take n l) (replicate (mostTables - n) 0) 0 t b
+    ∙ sym (List·getD-append (take n l) (drop n l) 0 t b) ∙ ap (λ (x : List ℕ). getD x t 0) (take-append-drop n l)
+
+-- and so are the places and masks that a lawful catalogue stores there.
+module _ (cat : Catalogue) (lent : ℕ) (L : Lawful cat lent) (xs : length (cat .schemes) ≡ mostTables) (cs : length (cat .rows) ≡ mostTables) where
+  abbrev kept : Catalogue
+  kept = given (cat .m) (cat .n) (front (cat .n) (cat .schemes)) (front (cat .n) (cat .rows))
+
+  scheme-kept : (t : ℕ) → t < cat .n → schemeOf kept t ≡ schemeOf cat t
+  scheme-kept t h = front-at (cat .n) (cat .schemes) t h (omega (arith, L .tables))
+
+  count-kept : (t : ℕ) → t < cat .n → countOf kept t ≡ countOf cat t
+  count-kept t h = front-at (cat .n) (cat .rows) t h (omega (arith, L .tables))
+
+  first-kept : (t : ℕ) → t ≤ cat .n → firstCell kept t ≡ firstCell cat t
+  unfolding firstCell
+  first-kept zero h = refl
+  first-kept (suc t) h = rw (first-kept t (omega arith), scheme-kept t (omega arith), count-kept t (omega arith)) refl
+
+  touching-kept : (t k : ℕ) → t < cat .n → k ≤ cat .n → touchingBelow kept t k ≡ touchingBelow cat t k
+  unfolding touchingBelow touch
+  touching-kept t zero h l = refl
+  touching-kept t (suc k) h l = rw (touching-kept t k h (omega arith), scheme-kept t h, scheme-kept k (omega arith)) refl
+
+  pub trimmed-stored : (t : ℕ) → t < cat .n → (placeIn (trimmed cat) t ≡ placeIn cat t) × (maskIn (trimmed cat) t ≡ maskIn cat t)
+  trimmed-stored t h = (
+    for-at (cat .n) (firstCell kept) t h (L .tables) ∙ first-kept t (omega arith) ∙ sym (L .places t h),
+    for-at (cat .n) (touchingOf kept) t h (L .tables) ∙ touching-kept t (cat .n) h (omega arith) ∙ sym (L .touching t h),
+  )

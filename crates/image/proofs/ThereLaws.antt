@@ -5,7 +5,7 @@ use native.Mathlib.Decide.{decLt}
 use native.Mathlib.Omega.{arith}
 use native.Mathlib.Numerals.{add-one}
 use mathlib.Core.Path.{_≡_, refl, sym, ap, _∙_}
-use mathlib.Core.Bool.{Bool, true, false, cond, _||_, true≢false}
+use mathlib.Core.Bool.{Bool, true, false, cond, _||_}
 use mathlib.Core.List.{List, [], _∷_, _++_, append-assoc, append-nil}
 use lib.ListN.{length, getD, set, take, drop, replicate, length-append, length-drop, take-append-drop}
 use lib.Seq.{length-take-le, take-add, take-at, take-suc, set-at, drop-at, drop-drop}
@@ -15,6 +15,7 @@ use lib.Pow.{pow-mono}
 use borrow.Author.Tests.{leb-false, le-ltb}
 use Rattle.laws.specs.Lists.{part}
 use Rattle.laws.proofs.ListLaws.{length-part, part-append}
+use Rattle.laws.proofs.TestLaws.{or-none}
 use Rattle.numbers.specs.Numbers.{encode, decode}
 use Rattle.numbers.specs.declared.Reading.the-variants.{Number}
 use Rattle.numbers.proofs.EncodeLaws.{last-in, more-in, encode-last}
@@ -52,21 +53,17 @@ front-more t l h e =
 
 -- ---- what the writer's tests say
 
-pub or-clear : (a b : Bool) → (a || b) ≡ false → (a ≡ false) × (b ≡ false)
-or-clear true b e = absurd (true≢false e)
-or-clear false b e = (refl, e)
-
 low-append : (xs ys : List ℕ) → tooHigh xs ≡ false → tooHigh ys ≡ false → tooHigh (xs ++ ys) ≡ false
 unfolding tooHigh
 low-append [] ys h l = l
 low-append (x ∷ xs) ys h l =
-    let c = or-clear (leb (2 ^ 63) x) (tooHigh xs) h in
+    let c = or-none (leb (2 ^ 63) x) (tooHigh xs) h in
     rw (c .0) (low-append xs ys (c .1) l)
 
 low-split : (x : ℕ) (xs : List ℕ) → tooHigh (x ∷ xs) ≡ false → (x < 2 ^ 63) × (tooHigh xs ≡ false)
 unfolding tooHigh
 low-split x xs e =
-    let c = or-clear (leb (2 ^ 63) x) (tooHigh xs) e in
+    let c = or-none (leb (2 ^ 63) x) (tooHigh xs) e in
     (leb-false (2 ^ 63) x (c .0), c .1)
 
 both-clear : (high rises : Bool) (rest : ℕ) → cond high 10 (cond rises rest 7) ≡ 0 → (high ≡ false) × (rises ≡ true) × (rest ≡ 0)
@@ -228,7 +225,7 @@ module _ (cat : Catalogue) (cells : List ℕ) (A : Accepted cat cells) (room : �
   table-clear : (t : ℕ) → t < cat .n → Clear (cat .m) room (firstCell cat t) (schemeOf cat t) (countOf cat t)
   table-clear t h =
       let L = A .lawful in
-      let ends = table-ends cat (length cells) L t h in
+      let ends = table-ends cat t h in
       record { some = L .some-scheme t h; low = L .scheme t h; few = L .rows t h; most = omega (arith, L .cells); room = omega arith }
 
   module _ (s : List ℕ) where
@@ -240,7 +237,7 @@ module _ (cat : Catalogue) (cells : List ℕ) (A : Accepted cat cells) (room : �
     cells-read t q r h e =
         let c = countOf cat t in
         let w = ones (schemeOf cat t) in
-        let held : firstCell cat t + c * w ≤ length cells = omega (arith, table-ends cat (length cells) (A .lawful) t h, A .lawful .room) in
+        let held : firstCell cat t + c * w ≤ length cells = omega (arith, table-ends cat t h, A .lawful .room) in
         let run = part-reads s (firstCell cat t) (c * w) cells r q held (rows-low c w cells true 0 (firstCell cat t) (A .rows t h)) e in
         (rows-read s c w cells true 0 (firstCell cat t) 0 q r held (A .rows t h) (λ ys. refl) e, run .0, run .1)
 

@@ -4,6 +4,7 @@ use mathlib.Core.List.{List, _++_}
 use lib.ListN.{take, replicate}
 use Rattle.laws.specs.Lists.{put}
 use Rattle.tables.specs.declared.Catalogue.{Catalogue}
+use Rattle.tables.specs.Catalogues.{filled, given}
 use Rattle.tables.specs.Sizes.{mostTables}
 use Rattle.loader.specs.declared.Verdict.the-variants.{Good}
 use Rattle.loader.specs.declared.Loaded.{Loaded}
@@ -13,9 +14,9 @@ use Rattle.loader.specs.Load.{firstTable, tablesCodes}
 unfoldable pub front : ℕ → List ℕ → List ℕ
 front n l = take n l ++ replicate (mostTables - n) 0
 
--- The catalogue with the entries from n on as they are "after a load".
+-- The catalogue as it is "after a load": the entries from n on are 0, and places and masks are filled. Below n a lawful one has the same (`trimmed-stored`).
 abbrev pub trimmed : Catalogue → Catalogue
-trimmed cat = record { m = cat .m; n = cat .n; schemes = front (cat .n) (cat .schemes); rows = front (cat .n) (cat .rows) }
+trimmed cat = filled (given (cat .m) (cat .n) (front (cat .n) (cat .schemes)) (front (cat .n) (cat .rows)))
 
 -- The answer of a load that finds these tables.
 abbrev pub found : Catalogue → Loaded

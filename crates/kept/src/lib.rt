@@ -1,5 +1,6 @@
 // Callers of the public calls, one for each, that promise what they were promised and do nothing else.
 // They are here for the check: a public contract that loses its promise, or says less, is not enough for its caller here. Nothing else calls them.
+ghost use Rattle.tables.specs.Checks.{Makes};
 ghost use Rattle.loader.specs.Load.{Loads};
 ghost use Rattle.writer.specs.Write.{Writes};
 ghost use Rattle.padding.specs.Covering.{Covers};
@@ -7,7 +8,7 @@ ghost use Rattle.stream.specs.Promises.{Opens, Steps, OpensHolding, StepsHoldin
 ghost use Rattle.door.specs.Door.{Checks};
 ghost use Rattle.hub.specs.Promises.{ChecksList};
 ghost use Rattle.abi.specs.Lists.{ListCall};
-ghost use Rattle.abi.specs.Calls.{LoadCall, WriteCall, CoversCall};
+ghost use Rattle.abi.specs.Calls.{LoadCall, MakeCall, WriteCall, CoversCall};
 ghost use Rattle.abi.specs.Streams.{OpenCall, NextCall, OpenHoldingCall, NextHoldingCall};
 use harbour::Catalogue;
 use harbour::HoldingOpenAnswer;
@@ -15,6 +16,7 @@ use harbour::HoldingRecord;
 use harbour::HoldingStepAnswer;
 use harbour::ListVerdict;
 use harbour::Loaded;
+use harbour::Made;
 use harbour::OpenAnswer;
 use harbour::StepAnswer;
 use harbour::StreamRecord;
@@ -25,6 +27,13 @@ pub fn load(image: &[u8], cells: &mut [u64]) -> Loaded
     ensures { λ r. ⌜ Loads (now (image .entry)) (now (cells .entry)) r (now (cells .exit)) ⌝ }
 {
     harbour::load(image, cells)
+}
+
+// Calls `harbour::make_catalogue`.
+pub fn make_catalogue(m: usize, n: usize, schemes: [u64; 8], rows: [u16; 8]) -> Made
+    ensures { λ r. ⌜ Makes m n schemes rows r ⌝ }
+{
+    harbour::make_catalogue(m, n, schemes, rows)
 }
 
 // Calls `harbour::write`.
@@ -113,6 +122,13 @@ pub fn load_words(image: &[u8], cells: &mut [u64], catalogue: &mut [u64], looked
     ensures { λ r. ⌜ LoadCall (now (image .entry)) (now (cells .entry)) (now (catalogue .entry)) (now (looked .entry)) r (now (cells .exit)) (now (catalogue .exit)) (now (looked .exit)) ⌝ }
 {
     abi::harbour_load(image, cells, catalogue, looked)
+}
+
+// Calls `abi::harbour_make_catalogue`.
+pub fn harbour_make_catalogue(given: &[u64], catalogue: &mut [u64]) -> u64
+    ensures { λ r. ⌜ MakeCall (now (given .entry)) (now (catalogue .entry)) r (now (catalogue .exit)) ⌝ }
+{
+    abi::harbour_make_catalogue(given, catalogue)
 }
 
 // Calls `abi::harbour_write`.

@@ -298,13 +298,9 @@ fn ended(filled: usize) -> Standing
     ensures { λ r. ⌜ (r .calls ≡ 0) × (r .filled ≡ filled) ⌝ }
 {
     let every = Scope::Every;
+    let none = tables::no_tables();
     Standing {
-        catalogue: Catalogue {
-            m: 0,
-            n: 0,
-            schemes: [0; 8],
-            rows: [0; 8],
-        },
+        catalogue: none,
         scope: every,
         stream: StreamRecord {
             found: 0,

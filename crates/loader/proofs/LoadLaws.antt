@@ -25,6 +25,7 @@ use Rattle.loader.specs.declared.Entry.{Entry}
 use Rattle.loader.specs.declared.Entry.the-variants.{Table, TableFault}
 use Rattle.loader.specs.declared.Verdict.the-variants.{Good}
 use Rattle.loader.specs.Reading.{refusalAt, rowsFrom}
+use Rattle.tables.specs.Catalogues.{filled, given}
 use Rattle.loader.specs.Load.{refused, fieldAt, onFault, entryOf, countAt, tableAt, tablesFrom, scanOf}
 
 -- ---- a refusal in the way
@@ -133,7 +134,7 @@ module _ (s : List ℕ) (room m n t used : ℕ) (xs cs : List ℕ) (i : ℕ) whe
   tables-over (suc k) z h = absurd (omega arith)
 
   pub tables-end : (k : ℕ) → k ≤ 0 → length s ≤ i
-      → tablesFrom k s room m n t used xs cs i ≡ record { verdict = Good; catalogue = record { m = m; n = n; schemes = xs; rows = cs } }
+      → tablesFrom k s room m n t used xs cs i ≡ record { verdict = Good; catalogue = filled (given m n xs cs) }
   unfolding tablesFrom
   tables-end zero z h = rw (le-ltb i (length s) h)
   tables-end (suc k) z h = absurd (omega arith)

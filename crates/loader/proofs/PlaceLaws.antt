@@ -27,6 +27,7 @@ use Rattle.loader.specs.declared.Entry.the-variants.{Table, TableFault}
 use Rattle.loader.specs.declared.Verdict.{Verdict}
 use Rattle.loader.specs.declared.Verdict.the-variants.{Good, Refused}
 use Rattle.loader.specs.Reading.{refusalAt, onNumber, onWalk, runEnd, codes, rowsFrom}
+use Rattle.tables.specs.Catalogues.{filled, given}
 use Rattle.loader.specs.Load.{refused, fieldAt, onField, entryOf, countAt, tableAt, onEntry, tablesFrom, scanOf, farthest, NearFault, NearVerdict}
 use Rattle.loader.proofs.LoadLaws.{count-bad, count-fault, count-rows, table-bad, table-scheme, table-count, good-field}
 
@@ -123,7 +124,7 @@ tables-near : (k : ℕ) (s : List ℕ) (room m n t used : ℕ) (xs cs : List ℕ
 unfolding tablesFrom
 tables-near zero s room m n t used xs cs i = pick (ltb i (length s))
   where
-    pick : (b : Bool) → NearVerdict (i + (18 + 9 * mostCells) * 0) (cond b (refused (refusalAt 9 i 0)) (record { verdict = Good; catalogue = record { m = m; n = n; schemes = xs; rows = cs } }) .verdict)
+    pick : (b : Bool) → NearVerdict (i + (18 + 9 * mostCells) * 0) (cond b (refused (refusalAt 9 i 0)) (record { verdict = Good; catalogue = filled (given m n xs cs) }) .verdict)
     pick true = omega arith
     pick false = tt
 tables-near (suc k) s room m n t used xs cs i = pick (tableAt s room m used i) (table-near s room m used i) (λ x c u e. tables-near k s room m n (t + 1) u (set xs t x) (set cs t c) e)

@@ -10,7 +10,7 @@ use lib.Count.{ones}
 use lib.Dec.{ltb}
 use Rattle.laws.specs.Lists.{put}
 use Rattle.numbers.specs.Numbers.{decode}
-use Rattle.tables.specs.declared.Catalogue.{Catalogue}
+use Rattle.tables.specs.Catalogues.{filled, given, noTables}
 use Rattle.tables.specs.Sizes.{mostAttributes, mostTables, version}
 use Rattle.tables.specs.Checks.{outside, badScheme, countFault}
 use Rattle.loader.specs.declared.Fault.{Fault}
@@ -29,13 +29,9 @@ use Rattle.loader.specs.Reading.{refusalAt, onNumber, runEnd, codes, row
 abbrev pub firstTable : ℕ
 firstTable = 3
 
--- "A refusal gives a catalogue of zeros".
-abbrev pub noCatalogue : Catalogue
-noCatalogue = record { m = 0; n = 0; schemes = replicate 8 0; rows = replicate 8 0 }
-
--- What a load gives that is refused by a fault.
+-- What a load gives that is refused by a fault: "a refusal gives a catalogue of zeros".
 abbrev pub refused : Fault → Loaded
-refused f = record { verdict = Refused f; catalogue = noCatalogue }
+refused f = record { verdict = Refused f; catalogue = noTables }
 
 -- The number at place i and the place behind it, where it lies in its range; else its own refusal, or the one given.
 unfoldable pub fieldAt : List ℕ → ℕ → ℕ → ℕ → ℕ → Field
@@ -81,10 +77,10 @@ onEntry (Table scheme rows used n) go refuse = go scheme rows used n
 onEntry (TableFault f) go refuse = refuse f
 
 -- k tables from place i on, the next of which is table t; `used` cells, these schemes and these row counts lie before it.
--- "9: bytes after the last table", at the place "of the surplus".
+-- "9: bytes after the last table", at the place "of the surplus". A good image's catalogue has its places and masks filled (#106).
 unfoldable pub tablesFrom : ℕ → List ℕ → ℕ → ℕ → ℕ → ℕ → ℕ → List ℕ → List ℕ → ℕ → Loaded
 tablesFrom zero s room m n t used schemes rows i =
-    cond (ltb i (length s)) (refused (refusalAt 9 i 0)) (record { verdict = Good; catalogue = record { m = m; n = n; schemes = schemes; rows = rows } })
+    cond (ltb i (length s)) (refused (refusalAt 9 i 0)) (record { verdict = Good; catalogue = filled (given m n schemes rows) })
 tablesFrom (suc k) s room m n t used schemes rows i =
     onEntry (tableAt s room m used i) (λ x c u e. tablesFrom k s room m n (t + 1) u (set schemes t x) (set rows t c) e) refused
 

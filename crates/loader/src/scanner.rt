@@ -15,7 +15,6 @@ use super::Loaded;
 use super::Verdict;
 use super::Walk;
 use numbers::Reading;
-use tables::Catalogue;
 
 // The refusal k at a place, with the bytes looked at.
 pub fn refusal_at(k: usize, p: usize, looked: usize) -> Fault
@@ -154,14 +153,10 @@ fn table_at(s: &[u8], room: usize, m: usize, used: usize, at: usize) -> Entry
 fn refuse(f: Fault) -> Loaded
     ensures { λ r. ⌜ r ≡ refused f ⌝ }
 {
+    let catalogue = tables::no_tables();
     Loaded {
         verdict: Verdict::Refused(f),
-        catalogue: Catalogue {
-            m: 0,
-            n: 0,
-            schemes: [0; 8],
-            rows: [0; 8],
-        },
+        catalogue,
     }
 }
 
@@ -194,14 +189,11 @@ fn scan_tables(s: &[u8], room: usize, m: usize, n: usize, at: usize) -> Loaded
     if i < s.len() {
         return refuse(refusal_at(9, i, 0));
     }
+    let given = tables::given(m, n, schemes, rows);
+    let catalogue = tables::filled(given);
     Loaded {
         verdict: Verdict::Good,
-        catalogue: Catalogue {
-            m,
-            n,
-            schemes,
-            rows,
-        },
+        catalogue,
     }
 }
 

@@ -1,3 +1,4 @@
 pub mod WorldLaws
+pub mod TouchLaws
 pub mod NamedLaws
 pub mod Sample

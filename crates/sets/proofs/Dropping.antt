@@ -1,25 +1,26 @@
--- The start of a trial, row by row: which rows have to go, and the key from which they are taken table by table. Assumes nothing.
-use Prim.Native.Nat.{ℕ, _+_, _-_, _*_, _^_, _≤_, _<_}
+-- The start of a trial: which rows have to go, table by table, and what the set is without them. Assumes nothing.
+use Prim.Native.Nat.{ℕ, _-_, _^_, _<_}
 use mathlib.Core.Path.{_≡_, refl, sym, ap, _∙_}
-use mathlib.Core.Logic.{_⊎_, inl, inr, _≢_}
+use mathlib.Core.Logic.{_⊎_, inl, inr, _≢_, ⊎-elim}
 use mathlib.Core.Bool.{Bool, true, false, not, cond, _&&_}
 use mathlib.Core.List.{List}
 use native.Mathlib.Omega.{arith}
 use native.Mathlib.Nat.{eq-zero-or-pos}
 use native.Mathlib.Decide.{ℕ-discrete}
-use lib.ListN.{length}
-use lib.Seq.{ext-getD, getD-set-same, getD-set-other}
-use lib.Bits.{bitAnd}
-use lib.Count.{ones}
+use lib.ListN.{length, length-set}
+use lib.Seq.{getD-set-same, getD-set-other}
+use lib.Bits.{bitAnd, bitOr}
 use lib.Dec.{eqb}
-use lib.Pow.{pow-pos}
 use borrow.Author.Tests.{eq-eqb, ne-eqb}
-use Rattle.laws.proofs.TestLaws.{not-yes, iff-eq, and-split}
-use Rattle.keys.specs.Keys.{bitsPerRow, rowOf, withRow}
-use Rattle.keys.proofs.KeyLaws.{row-same, row-other, with-lt}
-use Rattle.keys.proofs.SetLaws.{in-length, in-at, in-with}
+use Rattle.laws.proofs.TestLaws.{which, clash, not-yes, iff-eq, and-split, and-none, or-left, or-right}
+use Rattle.words.specs.Words.{bitOf}
+use Rattle.words.proofs.WordLaws.{zero-bit, bit-and, bit-or, bit-gone}
+use Rattle.keys.specs.Keys.{bitsPerRow, withRow}
+use Rattle.keys.proofs.KeyLaws.{with-lt}
+use Rattle.keys.proofs.SetLaws.{in-length, in-with}
 use Rattle.tables.specs.declared.Catalogue.{Catalogue}
-use Rattle.tables.specs.Catalogues.{schemeOf, firstCell, rowStart}
+use Rattle.tables.specs.Sizes.{mostTables}
+use Rattle.tables.specs.Catalogues.{schemeOf, rowStart, placeIn, maskIn}
 use Rattle.tables.specs.Checks.{Lawful}
 use Rattle.disjunction.specs.Sets.{Tables, at, Member}
 use Rattle.disjunction.specs.Rule.{Place, addRow, member, dropped}
@@ -27,11 +28,14 @@ use Rattle.disjunction.proofs.RowTests.{member-iff}
 use Rattle.disjunction.proofs.Starting.{dropped-long, dropped-here, dropped-other}
 use Rattle.rows.specs.World.{worldOf, setOf, fitsIn}
 use Rattle.rows.specs.Named.{Named, There}
-use Rattle.rows.proofs.WorldLaws.{world-symmetric, row-room}
-use Rattle.walks.specs.Merged.{mergedLength, Merged, matches, Added, rowIn, only}
-use Rattle.sets.specs.Promises.{KeyFor, parts, ForDrop}
-use Rattle.walks.proofs.MatchLaws.{matches-none}
+use Rattle.rows.proofs.WorldLaws.{touch-iff, fit-iff, world-symmetric}
+use Rattle.rows.proofs.TouchLaws.{mask-self, mask-touches}
+use Rattle.rows.proofs.NamedLaws.{row-small}
+use Rattle.walks.specs.Merged.{mergedLength, Under, Merged, matches, Added, rowIn, only}
+use Rattle.sets.specs.Promises.{TablesOf, SetFor, lacking, parts}
+use Rattle.sets.proofs.MaskLaws.{bit-with, or-no, without-lacks, without-under}
 use Rattle.sets.proofs.MergedLaws.{matches-fits, merged-none, merged-add, only-here, only-other, only-more}
+use Rattle.sets.proofs.LackingLaws.{tables-has, tables-none, tables-lt, tables-add, lacking-by}
 use Rattle.sets.proofs.RowTestLaws.{start-of}
 
 -- ---- what has to go
@@ -75,11 +79,13 @@ module _ (W : Tables) (T : List ℕ) (s : Place) where
           (dropped-other W T s u b d ∙ either (W .fits u (at T u) (s .table) (s .row)) (at T u))
 
 -- The merged row of one row, as the code makes it.
-pub merged-one : (cat : Catalogue) (cells : List ℕ) (lent : ℕ) → Lawful cat lent → (t r base mask : ℕ) (codes codes′ : List ℕ) → There cat t r → base ≡ firstCell cat t
-    → length codes ≡ mergedLength → Added cells (schemeOf cat t) (rowIn base (schemeOf cat t) (r - 1)) 0 codes codes′ mask → Merged cat cells (only t r) codes′ mask
-merged-one cat cells lent L t r base mask codes codes′ h e l A =
-    merged-add cat cells lent L (λ u. 0) (only t r) t r (h .table) (only-more t r (h .low)) codes codes′ 0 mask (merged-none cat cells (λ u. 0) codes l (λ u. refl))
-    (rw (← start-of cat t r base e) A)
+pub merged-one : (cat : Catalogue) (cells : List ℕ) (lent : ℕ) → Lawful cat lent → (t r mask : ℕ) (codes codes′ : List ℕ) → There cat t r
+    → length codes ≡ mergedLength → Added cells (schemeOf cat t) (rowIn (placeIn cat t) (schemeOf cat t) (r - 1)) 0 codes codes′ mask
+    → Merged cat cells (only t r) codes′ mask
+merged-one cat cells lent L t r mask codes codes′ h l A =
+    merged-add cat cells lent L (λ u. 0) (only t r) t r (h .table) (only-more t r (h .low)) codes codes′ 0 mask
+    (merged-none cat cells (λ u. 0) codes l (λ u. refl))
+    (rw (← start-of cat t r (placeIn cat t) (L .places t (h .table))) A)
 
 -- A row is consistent with row r of table t where it has the codes of its merged row.
 pub fits-one : (cat : Catalogue) (cells : List ℕ) (lent : ℕ) → Lawful cat lent → (t r u q : ℕ) (codes : List ℕ) (mask : ℕ) → 0 < r
@@ -95,85 +101,128 @@ fits-one cat cells lent L t r u q codes mask p M =
     each h v m (yes e) = rw (e, only-here t r) h
     each h v m (no g) = absurd (omega (arith, m, only-other t r v g))
 
--- The cells of a key's row of table u are there.
-pub member-room : (cat : Catalogue) (lent : ℕ) → Lawful cat lent → (key u base : ℕ) → Named cat key → u < cat .n → base ≡ firstCell cat u → 0 < rowOf bitsPerRow key u
-    → rowIn base (schemeOf cat u) (rowOf bitsPerRow key u - 1) + ones (schemeOf cat u) ≤ lent
-member-room cat lent L key u base N l b p =
-    rw (start-of cat u (rowOf bitsPerRow key u) base b)
-    (row-room cat lent L u (rowOf bitsPerRow key u) (record { table = l; low = p; high = N .rows u l }))
-
--- The row q of table u in a key's set, with its cells as the code finds them: they tell whether the row has to go.
-module _ (cat : Catalogue) (cells : List ℕ) (key : ℕ) (s : Place) (u scheme base mask : ℕ) (codes : List ℕ) (D : ForDrop cat cells key s u scheme base mask codes)
-    (q w : ℕ) (d : u ≢ s .table) (e : q ≡ rowOf bitsPerRow key u) (p : q ≡ 0 → ⊥) (f : w ≡ ones scheme) where
-  pub parts-answer : parts (worldOf cat cells) (setOf cat key) s u ≡ not (matches cells scheme (base + (q - 1) * w) (bitAnd scheme mask) codes)
-  parts-answer =
-      let o : at (setOf cat key) u ≡ q = in-at bitsPerRow (cat .n) key u (D .table) ∙ sym e in
-      let m : fitsIn cat cells u (at (setOf cat key) u) (s .table) (s .row) ≡ matches cells scheme (base + (q - 1) * w) (bitAnd scheme mask) codes =
-      rw (o, f, D .own, start-of cat u q base (D .begins)) (fits-one cat cells (length cells) (D .lawful) (s .table) (s .row) u q codes mask (D .row) (D .merged)) in
-      parts-fits (worldOf cat cells) (setOf cat key) s u d (omega (arith, p, o)) ∙ ap not m
-
-  -- It stays where it shares no attribute with s.
-  pub parts-apart : bitAnd scheme mask ≡ 0 → parts (worldOf cat cells) (setOf cat key) s u ≡ false
-  parts-apart z =
-      parts-answer
-      ∙ ap not (ap (λ (x : ℕ). matches cells scheme (base + (q - 1) * w) x codes) z ∙ matches-none cells scheme (base + (q - 1) * w) codes)
+-- Rows of tables that do not touch are consistent.
+fits-apart : (cat : Catalogue) (cells : List ℕ) (lent : ℕ) → Lawful cat lent → (t r u q : ℕ) → t < cat .n → u < cat .n → u ≢ t → bitOf (maskIn cat t) u ≡ false
+    → fitsIn cat cells u q t r ≡ true
+fits-apart cat cells lent L t r u q l b d f =
+    fit-iff cat cells u q t r .1 (λ a k x y. absurd (clash (touch-iff cat cells t u .1 (a, k, y, x)) (sym (mask-touches cat lent L t l u b d) ∙ f)))
 
 -- ---- table by table
 
--- The rows of tables below u are those that the drop leaves, the others still those of T with s.
-pub record Keeping (cat : Catalogue) (cells : List ℕ) (key : ℕ) (s : Place) (all u : ℕ) : Type 0 where
-  pub turn : u ≤ cat .n
-  pub low : all < 2 ^ (bitsPerRow * cat .n)
-  pub done : (v : ℕ) → v < u → v < cat .n → rowOf bitsPerRow all v ≡ at (dropped (worldOf cat cells) (setOf cat key) s) v
-  pub rest : (v : ℕ) → u ≤ v → v < cat .n → rowOf bitsPerRow all v ≡ at (addRow (setOf cat key) s) v
+-- The tables of `rest` are still to be asked; of the others `gone` has those whose row has to go.
+pub record Parting (cat : Catalogue) (cells : List ℕ) (T : List ℕ) (s : Place) (mask gone rest : ℕ) : Type 0 where
+  pub under : Under rest mask
+  pub asked : (u : ℕ) → bitOf rest u ≡ false → bitOf gone u ≡ parts (worldOf cat cells) T s u
+  pub todo : (u : ℕ) → bitOf rest u ≡ true → bitOf gone u ≡ false
 
-module _ (cat : Catalogue) (cells : List ℕ) (key : ℕ) (s : Place) (l : s .table < cat .n) where
-  pub keep-start : (all : ℕ) → all ≡ withRow bitsPerRow key (s .table) (s .row) → s .row < 2 ^ bitsPerRow → key < 2 ^ (bitsPerRow * cat .n)
-      → Keeping cat cells key s all 0
-  keep-start all e small low =
-      rw e
-      (record {
-        turn = omega arith;
-        low = with-lt bitsPerRow (cat .n) key (s .table) (s .row) l small low;
-        done = λ v b m. absurd (omega arith);
-        rest = λ v b m.
-            sym (in-at bitsPerRow (cat .n) (withRow bitsPerRow key (s .table) (s .row)) v m)
-            ∙ ap (λ (X : List ℕ). at X v) (in-with bitsPerRow (cat .n) key (s .table) (s .row) l small);
-      })
+module _ (cat : Catalogue) (cells : List ℕ) (lent : ℕ) (L : Lawful cat lent) (T : List ℕ) (long : length T ≡ cat .n) (s : Place)
+    (h : There cat (s .table) (s .row))
+    (tables : ℕ) (M : TablesOf T tables) where
+  -- The tables that are asked: those of the set that touch that of s.
+  abbrev near : ℕ
+  near = bitAnd tables (maskIn cat (s .table))
 
-  module _ (all u : ℕ) (k : Keeping cat cells key s all u) (b : u < cat .n) (y : Bool) (p : y ≡ parts (worldOf cat cells) (setOf cat key) s u) where
-    -- Table u is as the drop leaves it, and the others as they were.
-    keep-next : (all′ : ℕ) → all′ < 2 ^ (bitsPerRow * cat .n) → rowOf bitsPerRow all′ u ≡ cond y 0 (at (addRow (setOf cat key) s) u)
-        → ((v : ℕ) → v ≢ u → rowOf bitsPerRow all′ v ≡ rowOf bitsPerRow all v) → Keeping cat cells key s all′ (u + 1)
-    keep-next all′ low here others =
+  module _ (u : ℕ) (b : bitOf near u ≡ true) where
+    split : (bitOf tables u ≡ true) × (bitOf (maskIn cat (s .table)) u ≡ true)
+    split = and-split (bitOf tables u) (bitOf (maskIn cat (s .table)) u) (sym (bit-and tables (maskIn cat (s .table)) u) ∙ b)
+
+    pub near-member : Member T u
+    near-member = tables-has T tables M u (split .0)
+
+    pub near-table : u < cat .n
+    near-table = rw long at (tables-lt T tables M u (split .0))
+
+    pub near-other : u ≢ s .table
+    near-other q = clash (split .1) (rw q (mask-self cat lent L (s .table) (h .table)))
+
+  -- Of the others no row has to go.
+  far-stays : (u : ℕ) → bitOf near u ≡ false → parts (worldOf cat cells) T s u ≡ false
+  far-stays u f = go (ℕ-discrete u (s .table)) (which (bitOf tables u))
+    where
+      go : Dec (u ≡ s .table) → (bitOf tables u ≡ true) ⊎ (bitOf tables u ≡ false) → parts (worldOf cat cells) T s u ≡ false
+      go (yes q) w = parts-own (worldOf cat cells) T s u q
+      go (no g) (inr n) = parts-none (worldOf cat cells) T s u (tables-none T tables M u n)
+      go (no g) (inl y) =
+          let m = tables-has T tables M u y in
+          let a = and-none (bitOf tables u) (bitOf (maskIn cat (s .table)) u) (sym (bit-and tables (maskIn cat (s .table)) u) ∙ f) y in
+          parts-fits (worldOf cat cells) T s u g m
+          ∙ ap not (fits-apart cat cells lent L (s .table) (s .row) u (at T u) (h .table) (rw long at (tables-lt T tables M u y)) g a)
+
+  pub parting-start : Parting cat cells T s near 0 near
+  parting-start = record { under = λ u b. b; asked = λ u f. zero-bit u ∙ sym (far-stays u f); todo = λ u b. zero-bit u }
+
+  -- The row of the next table is compared with that of s.
+  module _ (gone rest : ℕ) (P : Parting cat cells T s near gone rest) (u : ℕ) (b : bitOf rest u ≡ true) (codes : List ℕ) (mask : ℕ)
+      (G : Merged cat cells (only (s .table) (s .row)) codes mask) where
+    parts-answer : parts (worldOf cat cells) T s u ≡ not (matches cells (schemeOf cat u) (rowStart cat u (at T u)) (bitAnd (schemeOf cat u) mask) codes)
+    parts-answer =
+        parts-fits (worldOf cat cells) T s u (near-other u (P .under u b)) (near-member u (P .under u b))
+        ∙ ap not (fits-one cat cells lent L (s .table) (s .row) u (at T u) codes mask (h .low) G)
+
+    -- Whatever is said of it now, what is said of the others stays.
+    parting-next : (gone′ : ℕ) → bitOf gone′ u ≡ parts (worldOf cat cells) T s u → ((v : ℕ) → v ≢ u → bitOf gone′ v ≡ bitOf gone v)
+        → Parting cat cells T s near gone′ (rest - 2 ^ u)
+    parting-next gone′ here others =
         record {
-          turn = omega arith;
-          low = low;
-          done = λ v c m. go v c m (ℕ-discrete v u);
-          rest = λ v c m. others v (λ (q : v ≡ u). omega arith) ∙ k .rest v (omega arith) m;
+          under = λ v c. P .under v (without-under rest u b v c);
+          asked = λ v f.
+              ⊎-elim
+              (λ n. others v (λ (q : v ≡ u). clash (rw q b) n) ∙ P .asked v n)
+              (λ (q : v ≡ u). rw q here)
+              (without-lacks rest u v b f);
+          todo = λ v c. others v (λ (q : v ≡ u). clash (rw q at c) (bit-gone rest u b)) ∙ P .todo v (without-under rest u b v c);
         }
-      where
-        go : (v : ℕ) → v < u + 1 → v < cat .n → Dec (v ≡ u) → rowOf bitsPerRow all′ v ≡ at (dropped (worldOf cat cells) (setOf cat key) s) v
-        go v c m (yes q) =
-            rw q (here ∙ sym (dropped-parts (worldOf cat cells) (setOf cat key) s (in-length bitsPerRow (cat .n) key) l u b ∙ rw (← p)))
-        go v c m (no g) = others v g ∙ k .done v (omega (arith, g)) m
 
-    pub keep-stay : y ≡ false → Keeping cat cells key s all (u + 1)
-    keep-stay e = keep-next all (k .low) (rw e (k .rest u (omega arith) b)) (λ v q. refl)
+    module _ (start : ℕ) (e : start ≡ rowStart cat u (at T u)) where
+      abbrev fits : Bool
+      fits = matches cells (schemeOf cat u) start (bitAnd (schemeOf cat u) mask) codes
 
-    pub keep-gone : y ≡ true → (all′ : ℕ) → all′ ≡ withRow bitsPerRow all u 0 → Keeping cat cells key s all′ (u + 1)
-    keep-gone e all′ f =
-        rw f
-        (keep-next (withRow bitsPerRow all u 0) (with-lt bitsPerRow (cat .n) all u 0 b (pow-pos bitsPerRow) (k .low))
-        (rw e (row-same bitsPerRow all u 0 (pow-pos bitsPerRow)))
-        (λ v q. row-other bitsPerRow all u 0 v (pow-pos bitsPerRow) q))
+      -- It goes,
+      pub parting-goes : not fits ≡ true → (x : ℕ) → x ≡ 2 ^ u → Parting cat cells T s near (bitOr gone x) (rest - 2 ^ u)
+      parting-goes y x f =
+          parting-next (bitOr gone x)
+          (bit-with gone u x u f ∙ or-right (bitOf gone u) (eq-eqb u u refl) ∙ sym (parts-answer ∙ (rw e at y)))
+          (λ v g. bit-with gone u x v f ∙ rw (ne-eqb v u g) (or-no (bitOf gone v)))
 
-  pub keep-end : (all u : ℕ) → Keeping cat cells key s all u → cat .n ≤ u → KeyFor cat (dropped (worldOf cat cells) (setOf cat key) s) all
-  keep-end all u k b =
-      record {
-        low = k .low;
-        rows =
-            ext-getD 0 (setOf cat all) (dropped (worldOf cat cells) (setOf cat key) s)
-            (in-length bitsPerRow (cat .n) all ∙ sym (dropped-long (worldOf cat cells) (setOf cat key) s))
-            (λ v c. let m : v < cat .n = rw (in-length bitsPerRow (cat .n) all) at c in in-at bitsPerRow (cat .n) all v m ∙ k .done v (omega arith) m);
-      }
+      -- or it stays.
+      pub parting-stays : not fits ≡ false → Parting cat cells T s near gone (rest - 2 ^ u)
+      parting-stays n = parting-next gone (P .todo u b ∙ sym (parts-answer ∙ (rw e at n))) (λ v g. refl)
+
+  -- None is left to be asked.
+  pub parting-end : (gone : ℕ) → Parting cat cells T s near gone 0 → (u : ℕ) → bitOf gone u ≡ parts (worldOf cat cells) T s u
+  parting-end gone P u = P .asked u (zero-bit u)
+
+  -- ---- all at once
+
+  module _ (gone : ℕ) (G : (u : ℕ) → bitOf gone u ≡ parts (worldOf cat cells) T s u) where
+    -- What has to go are rows of the set.
+    gone-tables : (u : ℕ) → bitOf gone u ≡ true → bitOf tables u ≡ true
+    gone-tables u b = ⊎-elim (λ y. y) (λ n. absurd (clash b (G u ∙ parts-none (worldOf cat cells) T s u (tables-none T tables M u n)))) (which (bitOf tables u))
+
+    pub gone-few : (u : ℕ) → bitOf gone u ≡ true → u < mostTables
+    gone-few u b = omega (arith, tables-lt T tables M u (gone-tables u b), long, L .tables)
+
+    pub gone-under : (x : ℕ) → Under gone (bitOr tables x)
+    gone-under x u b = bit-or tables x u ∙ or-left (bitOf x u) (gone-tables u b)
+
+    pub gone-dropped : dropped (worldOf cat cells) T s ≡ lacking (addRow T s) gone
+    gone-dropped =
+        lacking-by (addRow T s) gone (dropped (worldOf cat cells) T s)
+        (dropped-long (worldOf cat cells) T s ∙ sym long ∙ sym (length-set T (s .table) (s .row)))
+        (λ u l.
+        dropped-parts (worldOf cat cells) T s long (h .table) u (rw (← long, ← length-set T (s .table) (s .row)) l)
+        ∙ rw (G u))
+
+-- The set with the row that comes in.
+pub added-set : (cat : Catalogue) (lent : ℕ) → Lawful cat lent → (key tables : ℕ) → Named cat key → TablesOf (setOf cat key) tables → (s : Place)
+    → There cat (s .table) (s .row)
+    → (key′ x : ℕ) → key′ ≡ withRow bitsPerRow key (s .table) (s .row) → x ≡ 2 ^ (s .table)
+    → SetFor cat (addRow (setOf cat key) s) (record { key = key′; tables = bitOr tables x })
+added-set cat lent L key tables N M s h key′ x e f =
+    let small = row-small cat lent L (s .table) (s .row) h in
+    rw e
+    (record {
+      low = with-lt bitsPerRow (cat .n) key (s .table) (s .row) (h .table) small (N .low);
+      rows = in-with bitsPerRow (cat .n) key (s .table) (s .row) (h .table) small;
+      tables = tables-add (setOf cat key) tables x s M (rw (in-length bitsPerRow (cat .n) key) (h .table)) (h .low) f;
+    })

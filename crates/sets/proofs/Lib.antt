@@ -1,4 +1,7 @@
+pub mod MaskLaws
 pub mod MergedLaws
+pub mod LackingLaws
+pub mod Leavings
 pub mod RowTestLaws
 pub mod ClosedLaws
 pub mod LayoutLaws

@@ -1,28 +1,28 @@
 -- The merged row of a set: of none, with one row more, and what it says of a row that is tested against it. One law of each serves every set of rows
--- (those of a key, those below a table, one row alone), since members are given by a function. Assumes nothing.
-use Prim.Native.Nat.{ℕ, _+_, _≤_, _<_}
+-- (those of a key, some of them, one row alone), since members are given by a function; and one law serves all words that are gathered from the members
+-- (schemes, masks of touching tables). Assumes nothing.
+use Prim.Native.Nat.{ℕ, _^_, _<_}
 use mathlib.Core.Path.{_≡_, refl, sym, ap, _∙_}
 use mathlib.Core.Logic.{_⊎_, inl, inr, ⊎-elim, _≢_, _↔_}
-use mathlib.Core.Bool.{true, false, cond, _||_}
+use mathlib.Core.Bool.{true, false, _||_}
 use mathlib.Core.List.{List}
 use native.Mathlib.Omega.{arith}
-use native.Mathlib.Decide.{ℕ-discrete, decLt}
-use lib.ListN.{length, getD, List·getD-eq-default}
-use lib.Dec.{ltb}
+use native.Mathlib.Decide.{ℕ-discrete}
+use lib.ListN.{length, getD}
 use lib.Bits.{bitAnd, bitOr, or-lt}
 use lib.Pow.{pow-pos}
-use borrow.Author.Tests.{eq-eqb, ne-eqb, lt-ltb, le-ltb}
+use borrow.Author.Tests.{eq-eqb, ne-eqb}
 use Rattle.laws.proofs.TestLaws.{which, clash, and-split, and-join, or-case, or-left, or-right}
 use Rattle.words.specs.Words.{bitOf}
 use Rattle.words.proofs.WordLaws.{zero-bit, bit-and, bit-or, bit-lt}
 use Rattle.tables.specs.declared.Catalogue.{Catalogue}
 use Rattle.tables.specs.Catalogues.{schemeOf, codeOf, rowStart}
 use Rattle.tables.specs.Checks.{Lawful}
-use Rattle.disjunction.specs.Sets.{at}
 use Rattle.rows.specs.World.{fitsIn}
 use Rattle.rows.proofs.WorldLaws.{fit-iff}
 use Rattle.walks.specs.Merged.{mergedLength, Same, Under, Attributes, Merged, matches, joint, Added, only}
 use Rattle.walks.proofs.MatchLaws.{matches-iff}
+use Rattle.sets.specs.Promises.{Gathered}
 
 -- The attributes that a row shares with a set are its own.
 pub shared-split : (scheme mask a : ℕ) → bitOf (bitAnd scheme mask) a ≡ true → (bitOf scheme a ≡ true) × (bitOf mask a ≡ true)
@@ -45,37 +45,63 @@ more-old f g t r u o m = (rw (o .others u q) m, q)
     q : u ≢ t
     q e = let z : f u ≡ 0 = rw e (o .new) in omega arith
 
+-- ---- words of the members together
+
+module _ (word : ℕ → ℕ) where
+  pub gathered-none : (f : ℕ → ℕ) → ((u : ℕ) → f u ≡ 0) → Gathered word f 0
+  gathered-none f z = record { has = λ a b. absurd (clash b (zero-bit a)); of-has = λ a u m b. absurd (omega (arith, m, z u)) }
+
+  pub gathered-same : (f g : ℕ → ℕ) (mask : ℕ) → ((u : ℕ) → g u ≡ f u) → Gathered word f mask → Gathered word g mask
+  gathered-same f g mask e G =
+      record { has = λ a b. let (u, m, p) = G .has a b in (u, rw (e u) m, p); of-has = λ a u m b. G .of-has a u (rw (e u) at m) b }
+
+  pub gathered-add : (f g : ℕ → ℕ) (mask t r : ℕ) → OneMore f g t r → Gathered word f mask → Gathered word g (bitOr mask (word t))
+  gathered-add f g mask t r o G =
+      record {
+        has = λ a b.
+            ⊎-elim
+            (λ e. let (u, m, p) = G .has a e in (u, more-old f g t r u o m .0, p))
+            (λ e. (t, rw (o .here) (o .low), e))
+            (or-case (bitOf mask a) (bitOf (word t) a) (sym (bit-or mask (word t) a) ∙ b));
+        of-has = λ a u m b. bit-or mask (word t) a ∙ seen a u m b (ℕ-discrete u t);
+      }
+    where
+      seen : (a u : ℕ) → 0 < g u → bitOf (word u) a ≡ true → Dec (u ≡ t) → (bitOf mask a || bitOf (word t) a) ≡ true
+      seen a u m b (yes e) = or-right (bitOf mask a) (rw e at b)
+      seen a u m b (no q) = or-left (bitOf (word t) a) (G .of-has a u (rw (o .others u q) at m) b)
+
+  -- One member alone.
+  pub gathered-one : (f : ℕ → ℕ) (t : ℕ) → 0 < f t → ((u : ℕ) → u ≢ t → f u ≡ 0) → Gathered word f (word t)
+  gathered-one f t p z = record { has = λ a b. (t, p, b); of-has = λ a u m b. seen a u m b (ℕ-discrete u t) }
+    where
+      seen : (a u : ℕ) → 0 < f u → bitOf (word u) a ≡ true → Dec (u ≡ t) → bitOf (word t) a ≡ true
+      seen a u m b (yes e) = rw e at b
+      seen a u m b (no q) = absurd (omega (arith, m, z u q))
+
 module _ (cat : Catalogue) where
   -- ---- the attributes
 
-  pub attributes-none : (f : ℕ → ℕ) → ((u : ℕ) → f u ≡ 0) → Attributes cat f 0
-  attributes-none f z =
-      record { narrow = pow-pos (cat .m); has = λ a b. absurd (clash b (zero-bit a)); of-has = λ a u m b. absurd (omega (arith, m, z u)) }
+  abbrev schemes : ℕ → ℕ
+  schemes u = schemeOf cat u
 
-  pub attributes-same : (f g : ℕ → ℕ) (mask : ℕ) → ((u : ℕ) → g u ≡ f u) → Attributes cat f mask → Attributes cat g mask
-  attributes-same f g mask e A =
-      record {
-        narrow = A .narrow;
-        has = λ a b. let (u, m, p) = A .has a b in (u, rw (e u) m, p);
-        of-has = λ a u m b. A .of-has a u (rw (e u) at m) b;
-      }
+  -- The attributes of the members are the bits of their schemes together.
+  attributes-of : (f : ℕ → ℕ) (mask : ℕ) → mask < 2 ^ (cat .m) → Gathered schemes f mask → Attributes cat f mask
+  attributes-of f mask h G = record { narrow = h; has = G .has; of-has = G .of-has }
 
-  pub attributes-add : (lent : ℕ) → Lawful cat lent → (f g : ℕ → ℕ) (mask t r : ℕ) → t < cat .n → OneMore f g t r
+  of-attributes : (f : ℕ → ℕ) (mask : ℕ) → Attributes cat f mask → Gathered schemes f mask
+  of-attributes f mask A = record { has = A .has; of-has = A .of-has }
+
+  attributes-none : (f : ℕ → ℕ) → ((u : ℕ) → f u ≡ 0) → Attributes cat f 0
+  attributes-none f z = attributes-of f 0 (pow-pos (cat .m)) (gathered-none schemes f z)
+
+  attributes-same : (f g : ℕ → ℕ) (mask : ℕ) → ((u : ℕ) → g u ≡ f u) → Attributes cat f mask → Attributes cat g mask
+  attributes-same f g mask e A = attributes-of g mask (A .narrow) (gathered-same schemes f g mask e (of-attributes f mask A))
+
+  attributes-add : (lent : ℕ) → Lawful cat lent → (f g : ℕ → ℕ) (mask t r : ℕ) → t < cat .n → OneMore f g t r
       → Attributes cat f mask → Attributes cat g (bitOr mask (schemeOf cat t))
   attributes-add lent L f g mask t r l o A =
-      record {
-        narrow = or-lt (cat .m) mask (schemeOf cat t) (A .narrow) (L .scheme t l);
-        has = λ a b.
-            ⊎-elim
-            (λ e. let (u, m, p) = A .has a e in (u, more-old f g t r u o m .0, p))
-            (λ e. (t, rw (o .here) (o .low), e))
-            (or-case (bitOf mask a) (bitOf (schemeOf cat t) a) (sym (bit-or mask (schemeOf cat t) a) ∙ b));
-        of-has = λ a u m b. bit-or mask (schemeOf cat t) a ∙ seen a u m b (ℕ-discrete u t);
-      }
-    where
-      seen : (a u : ℕ) → 0 < g u → bitOf (schemeOf cat u) a ≡ true → Dec (u ≡ t) → (bitOf mask a || bitOf (schemeOf cat t) a) ≡ true
-      seen a u m b (yes e) = or-right (bitOf mask a) (rw e at b)
-      seen a u m b (no q) = or-left (bitOf (schemeOf cat t) a) (A .of-has a u (rw (o .others u q) at m) b)
+      attributes-of g (bitOr mask (schemeOf cat t)) (or-lt (cat .m) mask (schemeOf cat t) (A .narrow) (L .scheme t l))
+      (gathered-add schemes f g mask t r o (of-attributes f mask A))
 
 module _ (cat : Catalogue) (cells : List ℕ) where
   -- ---- the codes
@@ -195,46 +221,6 @@ module _ (cat : Catalogue) (cells : List ℕ) where
         M .of-each a (codeOf cat cells t r a) (w .1)
         (λ u m p. fit-iff cat cells u (f u) t r .0 (h u m) a (bit-lt mask (cat .m) a (M .attributes .narrow) (w .1)) p (w .0))),
   )
-
--- ---- table by table
-
--- The rows of T in tables below u.
-unfoldable pub upTo : List ℕ → ℕ → ℕ → ℕ
-upTo T u v = cond (ltb v u) (at T v) 0
-
-module _ (T : List ℕ) where
-  up-in : (u v : ℕ) → v < u → upTo T u v ≡ at T v
-  unfolding upTo
-  up-in u v h = rw (lt-ltb v u h)
-
-  pub up-out : (u v : ℕ) → u ≤ v → upTo T u v ≡ 0
-  unfolding upTo
-  up-out u v h = rw (le-ltb v u h)
-
-  up-other : (u v : ℕ) → v ≢ u → upTo T (u + 1) v ≡ upTo T u v
-  up-other u v q = go (decLt v u)
-    where
-      go : Dec (v < u) → upTo T (u + 1) v ≡ upTo T u v
-      go (yes l) = up-in (u + 1) v (omega arith) ∙ sym (up-in u v l)
-      go (no g) = up-out (u + 1) v (omega (arith, q)) ∙ sym (up-out u v (omega arith))
-
-  -- A table with a row in T, and one without.
-  pub up-row : (u r : ℕ) → 0 < r → at T u ≡ r → OneMore (upTo T u) (upTo T (u + 1)) u r
-  up-row u r p e = record { low = p; new = up-out u u (omega arith); here = up-in (u + 1) u (omega arith) ∙ e; others = up-other u }
-
-  pub up-skip : (u v : ℕ) → at T u ≡ 0 → upTo T (u + 1) v ≡ upTo T u v
-  up-skip u v z = go (ℕ-discrete v u)
-    where
-      go : Dec (v ≡ u) → upTo T (u + 1) v ≡ upTo T u v
-      go (yes e) = rw e (up-in (u + 1) u (omega arith) ∙ z ∙ sym (up-out u u (omega arith)))
-      go (no q) = up-other u v q
-
-  pub up-all : (u v : ℕ) → length T ≤ u → at T v ≡ upTo T u v
-  up-all u v h = go (decLt v u)
-    where
-      go : Dec (v < u) → at T v ≡ upTo T u v
-      go (yes l) = sym (up-in u v l)
-      go (no g) = List·getD-eq-default T 0 (omega arith) ∙ sym (up-out u v (omega arith))
 
 -- ---- one row
 

@@ -9,6 +9,7 @@ use native.Mathlib.Decide.{decLt}
 use native.Mathlib.Numerals.{add-one}
 use lib.ListN.{length, getD}
 use lib.Seq.{getD-set-other}
+use lib.Bits.{bitAnd}
 use Rattle.keys.specs.Keys.{bitsPerRow, withRow, keyOf}
 use Rattle.keys.proofs.KeyLaws.{row-same}
 use Rattle.keys.proofs.SetLaws.{in-length, in-at, in-with}
@@ -17,9 +18,8 @@ use Rattle.tables.specs.declared.Catalogue.{Catalogue}
 use Rattle.tables.specs.Catalogues.{schemeOf, countOf, rowStart, rowsBefore}
 use Rattle.tables.specs.Checks.{Lawful}
 use Rattle.tables.proofs.CatalogueLaws.{rows-next, rows-few}
-use Rattle.disjunction.specs.Sets.{Tables, at, size}
+use Rattle.disjunction.specs.Sets.{Tables, at}
 use Rattle.disjunction.specs.Rule.{Place, hit, miss, walk, Grown, rows, rowTest, extension}
-use Rattle.disjunction.proofs.RowSets.{size-le, size-set}
 use Rattle.disjunction.proofs.RowTests.{rowTest-absent}
 use Rattle.disjunction.proofs.RowOrder.{rowsBelow-at, rowsBelow-mono}
 use Rattle.disjunction.proofs.Growing.{walk-hit, walk-miss}
@@ -30,10 +30,10 @@ use Rattle.rows.proofs.WorldLaws.{rows-before, rows-total}
 use Rattle.rows.proofs.NamedLaws.{named-valid, named-size, named-with, named-key, row-small}
 use Rattle.walks.specs.Merged.{Merged, Added}
 use Rattle.walks.specs.Firsts.{FirstIn, NoneIn}
-use Rattle.sets.specs.Promises.{tested, Comes}
+use Rattle.sets.specs.Promises.{Reach, Comes}
 use Rattle.sets.proofs.MergedLaws.{OneMore, merged-add}
 use Rattle.walks.proofs.FirstLaws.{first-all}
-use Rattle.sets.proofs.ClosedLaws.{Round}
+use Rattle.sets.proofs.ClosedLaws.{tested, Shut, closed-test}
 use Rattle.words.specs.Words.{LowestBit}
 use Rattle.words.proofs.WordLaws.{zero-bit}
 
@@ -77,7 +77,8 @@ module _ (cat : Catalogue) (cells : List ℕ) where
             let q : rowsBefore cat t + (j - rowsBefore cat t) ≡ j = omega arith in
             rw (← q, place-of t (j - rowsBefore cat t) l (omega arith)) (h (j - rowsBefore cat t) (omega arith))
 
-    module _ (t c i : ℕ) (l : t < cat .n) (p : Passed cat cells T t c) (f : FirstIn (countOf cat t) (λ q. rowTest W T (record { table = t; row = suc q })) i) where
+    module _ (t c i : ℕ) (l : t < cat .n) (p : Passed cat cells T t c)
+        (f : FirstIn (countOf cat t) (λ q. rowTest W T (record { table = t; row = suc q })) i) where
       pub passed-next : countOf cat t ≤ i → (c′ : ℕ) → c′ ≡ c + countOf cat t → Passed cat cells T (t + 1) c′
       passed-next b c′ more =
           record {
@@ -90,11 +91,13 @@ module _ (cat : Catalogue) (cells : List ℕ) where
       round-hit b =
           let here = place-of t i l b in
           let n : suc (rowsBefore cat t + i) ≡ c + suc i = omega (arith, p .count) in
-          walk-hit (rowTest W T) (rows W) none (rowsBefore cat t + i) (place-inside t i l b) (clear-more t c i l (f .within) p (f .before)) (rw here (f .found b))
+          walk-hit (rowTest W T) (rows W) none (rowsBefore cat t + i) (place-inside t i l b) (clear-more t c i l (f .within) p (f .before))
+          (rw here (f .found b))
           ∙ ap₂ (λ (x : ℕ) (y : Place). hit x y) n here
 
     -- Where no table below t has a row that may be added.
-    pub passed-below : (t : ℕ) → t ≤ cat .n → ((u : ℕ) → u < t → NoneIn (countOf cat u) (λ q. rowTest W T (record { table = u; row = suc q }))) → Passed cat cells T t (rowsBefore cat t)
+    pub passed-below : (t : ℕ) → t ≤ cat .n → ((u : ℕ) → u < t → NoneIn (countOf cat u) (λ q. rowTest W T (record { table = u; row = suc q })))
+        → Passed cat cells T t (rowsBefore cat t)
     unfolding rowsBefore
     passed-below zero b h = passed-none
     passed-below (suc t) b h =
@@ -103,15 +106,19 @@ module _ (cat : Catalogue) (cells : List ℕ) where
 
     pub round-miss : (c : ℕ) → Passed cat cells T (cat .n) c → walk (rowTest W T) (rows W) ≡ miss c
     round-miss c p =
-        walk-miss (rowTest W T) (rows W) none (λ j h. p .clear j (rw (rows-total cat cells) at h)) ∙ ap (λ (x : ℕ). miss x) (rows-total cat cells ∙ sym (p .count))
+        walk-miss (rowTest W T) (rows W) none (λ j h. p .clear j (rw (rows-total cat cells) at h)) ∙ ap (λ (x : ℕ). miss x)
+        (rows-total cat cells ∙ sym (p .count))
 
--- The tables before the lowest that is left are passed, and all are where none is left.
-module _ (cat : Catalogue) (cells : List ℕ) (key live rest : ℕ) (R : Round cat cells key live rest) where
-  pub round-passed : (w t : ℕ) → t < cat .n → LowestBit w rest t → Passed cat cells (setOf cat key) t (rowsBefore cat t)
-  round-passed w t b l = passed-below cat cells (setOf cat key) t (omega arith) (λ u d. R .clear u (omega (arith, d)) (l .below u d))
+-- The tables before the lowest that is live and in reach are passed, and all are where none is.
+module _ (cat : Catalogue) (cells : List ℕ) (lent : ℕ) (L : Lawful cat lent) (key live reach : ℕ) (S : Shut cat cells key live)
+    (R : Reach cat (at (setOf cat key)) reach) where
+  pub round-passed : (w t : ℕ) → t < cat .n → LowestBit w (bitAnd live reach) t → Passed cat cells (setOf cat key) t (rowsBefore cat t)
+  round-passed w t b l =
+      passed-below cat cells (setOf cat key) t (omega arith) (λ u d. closed-test cat cells key live S lent L reach R u (omega (arith, d)) (l .below u d))
 
-  pub round-over : rest ≡ 0 → Passed cat cells (setOf cat key) (cat .n) (rowsBefore cat (cat .n))
-  round-over z = passed-below cat cells (setOf cat key) (cat .n) (omega arith) (λ u d. R .clear u d (rw z (zero-bit u)))
+  pub round-over : bitAnd live reach ≡ 0 → Passed cat cells (setOf cat key) (cat .n) (rowsBefore cat (cat .n))
+  round-over z =
+      passed-below cat cells (setOf cat key) (cat .n) (omega arith) (λ u d. closed-test cat cells key live S lent L reach R u d (rw z (zero-bit u)))
 
 -- ---- the rounds
 
@@ -153,12 +160,6 @@ module _ (cat : Catalogue) (cells : List ℕ) (lent : ℕ) (L : Lawful cat lent)
 
     new : at (setOf cat key) t ≡ 0
     new = rowTest-absent (W cat cells) (setOf cat key) (record { table = t; row = suc i }) (f .found b)
-
-    pub growing-less : cat .n - size (setOf cat (withRow bitsPerRow key t (suc i))) < cat .n - size (setOf cat key)
-    growing-less =
-        let e : size (setOf cat (withRow bitsPerRow key t (suc i))) ≡ suc (size (setOf cat key)) =
-        ap size (in-with bitsPerRow (cat .n) key t (suc i) l small) ∙ size-set (setOf cat key) t (suc i) (rw (in-length bitsPerRow (cat .n) key) l) new (omega arith) in
-        omega (arith, e, size-le (setOf cat (withRow bitsPerRow key t (suc i))), in-length bitsPerRow (cat .n) (withRow bitsPerRow key t (suc i)))
 
     pub one-more : OneMore (at (setOf cat key)) (at (setOf cat (withRow bitsPerRow key t (suc i)))) t (suc i)
     one-more =

@@ -2,33 +2,31 @@
 -- tables of crate rows. Nothing is asked of the rows of a set together, so that damaged records are determined too. Assumes nothing.
 use Prim.Native.Nat.{ℕ, suc, _*_, _^_, _<_}
 use mathlib.Core.Path.{_≡_}
-use mathlib.Core.Bool.{Bool, true, not, _&&_, _||_}
-use mathlib.Core.List.{List, []}
+use mathlib.Core.Bool.{Bool, true, not, cond, _&&_}
+use mathlib.Core.List.{List}
 use lib.Count.{ones}
 use lib.ListN.{length, getD}
-use lib.Bits.{bitAnd}
 use lib.Dec.{eqb}
+use Rattle.laws.specs.Lists.{tab}
 use Rattle.words.specs.Words.{bitOf}
 use Rattle.keys.specs.Keys.{bitsPerRow, keyOf}
 use Rattle.tables.specs.declared.Catalogue.{Catalogue}
-use Rattle.tables.specs.Sizes.{mostCells}
-use Rattle.tables.specs.Catalogues.{schemeOf, countOf, firstCell, rowsBefore, total}
-use Rattle.tables.specs.Checks.{Lawful}
+use Rattle.tables.specs.Catalogues.{schemeOf, countOf, firstCell, maskIn, rowsBefore, total}
 use Rattle.disjunction.specs.Sets.{Tables, at}
-use Rattle.disjunction.specs.Rule.{Place, Grown, rowIn, member, joins, rowTest}
+use Rattle.disjunction.specs.Rule.{Place, Grown, member, rowTest}
 use Rattle.rows.specs.World.{worldOf, setOf}
 use Rattle.rows.specs.Named.{Named}
 use Rattle.sets.specs.declared.Layout.{Layout}
-use Rattle.walks.specs.Merged.{Attributes, Merged, only, Rising}
+use Rattle.sets.specs.declared.RowSet.{RowSet}
+use Rattle.walks.specs.Merged.{Rising}
 
 -- Every table of the mask has a first column that does not fall. Of the others nothing is said.
 abbrev pub RisingIn : Catalogue → List ℕ → ℕ → Type 0
 RisingIn cat cells mask = (t : ℕ) → t < cat .n → bitOf mask t ≡ true → Rising cells (firstCell cat t) (ones (schemeOf cat t)) (countOf cat t)
 
--- What a trial goes by: of each table where its cells begin, how many rows lie before it and how wide its rows are; how many rows there are; and tables
--- whose first column does not fall.
+-- What a trial goes by: of each table how many rows lie before it and how wide its rows are; how many rows there are; and tables whose first column does
+-- not fall.
 pub record LaidOut (cat : Catalogue) (cells : List ℕ) (l : Layout) : Type 0 where
-  pub begins : (t : ℕ) → t < cat .n → getD (l .firsts) t 0 ≡ firstCell cat t
   pub before : (t : ℕ) → t < cat .n → getD (l .before) t 0 ≡ rowsBefore cat t
   pub wide : (t : ℕ) → t < cat .n → getD (l .widths) t 0 ≡ ones (schemeOf cat t)
   pub all : l .total ≡ total cat
@@ -38,23 +36,32 @@ pub record LaidOut (cat : Catalogue) (cells : List ℕ) (l : Layout) : Type 0 wh
 abbrev pub tested : Catalogue → List ℕ → ℕ → ℕ → ℕ → Bool
 tested cat cells key t i = rowTest (worldOf cat cells) (setOf cat key) (record { table = t; row = suc i })
 
--- These are the scheme and the first cell of table t, and the merged row is that of the key's set.
-pub record TableOf (cat : Catalogue) (cells : List ℕ) (key t scheme base attrs : ℕ) (codes : List ℕ) : Type 0 where
-  pub lawful : Lawful cat (length cells)
-  pub table : t < cat .n
-  pub has-scheme : scheme ≡ schemeOf cat t
-  pub has-base : base ≡ firstCell cat t
-  pub merged : Merged cat cells (at (setOf cat key)) codes attrs
+-- ---- a set and its tables
 
--- Table u is still live, after table t of this scheme was walked without a fit to a set with the attributes `attrs`: it was before, and it is not t, or t
--- shares none of them.
-unfoldable pub stays : ℕ → ℕ → ℕ → ℕ → ℕ → Bool
-stays scheme t attrs live u = bitOf live u && (eqb (bitAnd scheme attrs) 0 || not (eqb u t))
+-- `mask` has the tables with a row in T: bit u stands for table u.
+abbrev pub TablesOf : List ℕ → ℕ → Type 0
+TablesOf T mask = (u : ℕ) → bitOf mask u ≡ member T u
 
--- `key` is the key of the set T.
-pub record KeyFor (cat : Catalogue) (T : List ℕ) (key : ℕ) : Type 0 where
-  pub low : key < 2 ^ (bitsPerRow * cat .n)
-  pub rows : setOf cat key ≡ T
+-- The set as its key, which has no row from n on, and its tables.
+pub record SetFor (cat : Catalogue) (T : List ℕ) (s : RowSet) : Type 0 where
+  pub low : s .key < 2 ^ (bitsPerRow * cat .n)
+  pub rows : setOf cat (s .key) ≡ T
+  pub tables : TablesOf T (s .tables)
+
+-- T without its rows of the mask's tables.
+unfoldable pub lacking : List ℕ → ℕ → List ℕ
+lacking T mask = tab (length T) (λ u. cond (bitOf mask u) 0 (at T u))
+
+-- `mask` has a bit exactly where the word of a member's table has it. A member is a row number f u above 0 of table u.
+pub record Gathered (word f : ℕ → ℕ) (mask : ℕ) : Type 0 where
+  pub has : (a : ℕ) → bitOf mask a ≡ true → (u : ℕ) × (0 < f u) × (bitOf (word u) a ≡ true)
+  pub of-has : (a u : ℕ) → 0 < f u → bitOf (word u) a ≡ true → bitOf mask a ≡ true
+
+-- The tables that touch one of the members'.
+abbrev pub Reach : Catalogue → (ℕ → ℕ) → ℕ → Type 0
+Reach cat f mask = Gathered (λ u. maskIn cat u) f mask
+
+-- ---- what comes of it
 
 -- What an extension or a trial comes to: the set as its key, and the row tests made.
 pub record Comes (cat : Catalogue) (g : Grown) (to count : ℕ) : Type 0 where
@@ -66,25 +73,3 @@ pub record Comes (cat : Catalogue) (g : Grown) (to count : ℕ) : Type 0 where
 -- "Every row of another table not consistent with s": table u's row of T has to go.
 unfoldable pub parts : Tables → List ℕ → Place → ℕ → Bool
 parts W T s u = not (eqb u (s .table)) && member T u && not (W .fits u (at T u) (s .table) (s .row))
-
--- What is asked of a drop: table u of the catalogue has this scheme and its cells begin at `base`, the key names rows that are there, and s is a row with
--- these attributes and codes.
-pub record ForDrop (cat : Catalogue) (cells : List ℕ) (key : ℕ) (s : Place) (u scheme base attrs : ℕ) (codes : List ℕ) : Type 0 where
-  pub lawful : Lawful cat (length cells)
-  pub named : Named cat key
-  pub table : u < cat .n
-  pub own : scheme ≡ schemeOf cat u
-  pub begins : base ≡ firstCell cat u
-  pub row : 0 < s .row
-  pub merged : Merged cat cells (only (s .table) (s .row)) codes attrs
-
--- Table u's row of the set `all` joins the set `part`. No cell has a say in it.
-unfoldable pub joinsIn : Catalogue → List ℕ → List ℕ → ℕ → Bool
-joinsIn cat all part u = member all u && joins (worldOf cat []) part (rowIn all u)
-
--- What is asked of a join: table u of the catalogue has this scheme, and the part has these attributes.
-pub record ForJoin (cat : Catalogue) (part scheme attrs u : ℕ) : Type 0 where
-  pub lawful : Lawful cat mostCells
-  pub table : u < cat .n
-  pub own : scheme ≡ schemeOf cat u
-  pub attributes : Attributes cat (at (setOf cat part)) attrs

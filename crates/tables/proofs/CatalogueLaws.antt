@@ -65,6 +65,9 @@ module _ (cat : Catalogue) where
       let e : t + (u - t) ≡ u = omega arith in
       rw e at (cells-later t (u - t))
 
+  pub table-ends : (t : ℕ) → t < cat .n → firstCell cat t + countOf cat t * ones (schemeOf cat t) ≤ firstCell cat (cat .n)
+  table-ends t h = omega (arith, cells-next t, cells-mono (t + 1) (cat .n) (omega arith))
+
   -- row r of a table of w cells a row ends within the table
   pub row-ends : (w r k : ℕ) → 1 ≤ r → r ≤ k → (r - 1) * w + w ≤ k * w
   row-ends w zero k l h = absurd (omega arith)
@@ -86,14 +89,13 @@ module _ (cat : Catalogue) (lent : ℕ) (L : Lawful cat lent) where
         rows = L .rows;
         cells = L .cells;
         room = L .cells;
+        places = L .places;
+        touching = L .touching;
       }
-
-  pub table-ends : (t : ℕ) → t < cat .n → firstCell cat t + countOf cat t * ones (schemeOf cat t) ≤ firstCell cat (cat .n)
-  table-ends t h = omega (arith, cells-next cat t, cells-mono cat (t + 1) (cat .n) (omega arith))
 
   pub row-inside : (t r : ℕ) → t < cat .n → 1 ≤ r → r ≤ countOf cat t → rowStart cat t r + ones (schemeOf cat t) ≤ firstCell cat (cat .n)
   unfolding rowStart
-  row-inside t r h l k = omega (arith, table-ends t h, row-ends cat (ones (schemeOf cat t)) r (countOf cat t) l k)
+  row-inside t r h l k = omega (arith, table-ends cat t h, row-ends cat (ones (schemeOf cat t)) r (countOf cat t) l k)
 
   -- every row has a cell, so there are no more rows than cells
   rows-cells : (t : ℕ) → t ≤ cat .n → rowsBefore cat t ≤ firstCell cat t

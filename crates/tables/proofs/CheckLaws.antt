@@ -1,18 +1,20 @@
 -- The refusals of a catalogue, one law for each way that the code goes; and a catalogue without fault is a lawful one, and back. Assumes nothing.
 use Prim.Native.Nat.{ℕ, zero, suc, _+_, _-_, _*_, _/_, _^_, _≤_, _<_}
 use native.Mathlib.Nat.{mod-lt, div-eq-of-lt}
-use native.Mathlib.Decide.{decLt}
+use native.Mathlib.Decide.{decLt, ℕ-discrete}
 use native.Mathlib.Omega.{arith}
-use mathlib.Core.Path.{_≡_, refl, sym, _∙_}
+use mathlib.Core.Path.{_≡_, refl, sym, ap, _∙_}
 use mathlib.Core.Logic.{_↔_}
-use mathlib.Core.Bool.{true, false}
+use mathlib.Core.Bool.{true, false, not}
+use lib.Dec.{eqb}
 use lib.Count.{ones}
 use lib.Pow.{pow-pos, split}
 use borrow.Author.Tests.{lt-ltb, le-ltb, le-leb, lt-leb, eq-eqb, ne-eqb}
 use Rattle.tables.specs.declared.Catalogue.{Catalogue}
 use Rattle.tables.specs.Sizes.{mostAttributes, mostTables, mostRows, mostCells}
-use Rattle.tables.specs.Catalogues.{schemeOf, countOf, firstCell}
-use Rattle.tables.specs.Checks.{firstOf, outside, sizeFault, badScheme, countFault, tableFault, tablesFault, catalogueFault, Lawful}
+use Rattle.laws.proofs.TestLaws.{clash, not-yes, or-right, any-of, any-none}
+use Rattle.tables.specs.Catalogues.{schemeOf, countOf, firstCell, touchingOf, placeIn, maskIn}
+use Rattle.tables.specs.Checks.{firstOf, outside, sizeFault, badScheme, countFault, tableFault, tablesFault, shapeFault, misstored, storedFault, catalogueFault, Lawful}
 use Rattle.tables.proofs.CatalogueLaws.{cells-next, table-ends}
 
 -- ---- the first of two refusals
@@ -188,6 +190,26 @@ module _ (m n : ℕ) where
         ]
       ]
 
+-- What tables that meet none of 4, 5, 6 and 8 are known to be.
+pub record Shaped (cat : Catalogue) (lent : ℕ) : Type 0 where
+  pub sizes : InRange (cat .m) (cat .n)
+  pub some-scheme : (t : ℕ) → t < cat .n → 0 < schemeOf cat t
+  pub scheme : (t : ℕ) → t < cat .n → schemeOf cat t < 2 ^ (cat .m)
+  pub rows : (t : ℕ) → t < cat .n → countOf cat t ≤ mostRows
+  pub cells : firstCell cat (cat .n) ≤ mostCells
+  pub room : firstCell cat (cat .n) ≤ lent
+
+pub lawful-shaped : {cat : Catalogue} {lent : ℕ} → Lawful cat lent → Shaped cat lent
+lawful-shaped L =
+    record {
+      sizes = record { m-low = L .some-attribute; m-high = L .attributes; n-low = L .some-table; n-high = L .tables };
+      some-scheme = L .some-scheme;
+      scheme = L .scheme;
+      rows = L .rows;
+      cells = L .cells;
+      room = L .room;
+    }
+
 -- ---- table by table
 
 module _ (cat : Catalogue) (lent : ℕ) where
@@ -224,30 +246,26 @@ module _ (cat : Catalogue) (lent : ℕ) where
   clear-tables (suc k) t h =
       tables-more (suc k) k t refl (h t (omega arith) (omega arith)) ∙ clear-tables k (t + 1) (λ u l b. h u (omega arith) (omega arith))
 
-  -- No fault in the whole is none in m and n and none in the tables.
-  pub catalogue-split : (catalogueFault cat lent ≡ 0) ↔ ((sizeFault (cat .m) (cat .n) ≡ 0) × (tablesFault (cat .n) cat lent 0 ≡ 0))
-  unfolding catalogueFault
-  catalogue-split = (
+  -- No fault of the tables is none in m and n and none in a table.
+  pub shape-split : (shapeFault cat lent ≡ 0) ↔ ((sizeFault (cat .m) (cat .n) ≡ 0) × (tablesFault (cat .n) cat lent 0 ≡ 0))
+  unfolding shapeFault
+  shape-split = (
     λ e. first-clear (sizeFault (cat .m) (cat .n)) (tablesFault (cat .n) cat lent 0) e,
     λ f. first-none (sizeFault (cat .m) (cat .n)) (tablesFault (cat .n) cat lent 0) (f .0) ∙ f .1,
   )
 
-  -- A catalogue without fault is lawful,
-  pub fault-lawful : catalogueFault cat lent ≡ 0 → Lawful cat lent
-  unfolding catalogueFault
-  fault-lawful e =
-      let f = first-clear (sizeFault (cat .m) (cat .n)) (tablesFault (cat .n) cat lent 0) e in
+  pub shape-clear : shapeFault cat lent ≡ 0 → Shaped cat lent
+  shape-clear e =
+      let f = shape-split .0 e in
       let s = size-clear (cat .m) (cat .n) (f .0) in
       let each : (t : ℕ) → t < cat .n → Clear (cat .m) lent (firstCell cat t) (schemeOf cat t) (countOf cat t) =
       λ t h. fault-clear (cat .m) lent (firstCell cat t) (schemeOf cat t) (countOf cat t) (tables-clear (cat .n) 0 (f .1) t (omega arith) (omega arith)) in
       let last = each (cat .n - 1) (omega (arith, s .n-low)) in
       let ends : cat .n - 1 + 1 ≡ cat .n = omega (arith, s .n-low) in
-      let all : firstCell cat (cat .n) ≡ firstCell cat (cat .n - 1) + countOf cat (cat .n - 1) * ones (schemeOf cat (cat .n - 1)) = rw ends at (cells-next cat (cat .n - 1)) in
+      let all : firstCell cat (cat .n) ≡ firstCell cat (cat .n - 1) + countOf cat (cat .n - 1) * ones (schemeOf cat (cat .n - 1)) =
+      rw ends at (cells-next cat (cat .n - 1)) in
       record {
-        some-attribute = s .m-low;
-        attributes = s .m-high;
-        some-table = s .n-low;
-        tables = s .n-high;
+        sizes = s;
         some-scheme = λ t h. each t h .some;
         scheme = λ t h. each t h .low;
         rows = λ t h. each t h .few;
@@ -255,22 +273,97 @@ module _ (cat : Catalogue) (lent : ℕ) where
         room = omega (arith, all, last .room);
       }
 
-  -- and a lawful one has no fault.
-  pub lawful-fault : Lawful cat lent → catalogueFault cat lent ≡ 0
-  unfolding catalogueFault
-  lawful-fault L =
-      first-none (sizeFault (cat .m) (cat .n)) (tablesFault (cat .n) cat lent 0)
+  pub clear-shape : Shaped cat lent → shapeFault cat lent ≡ 0
+  clear-shape S =
+      shape-split .1
       (size-good (cat .m) (cat .n)
-      (inside 1 mostAttributes (cat .m) (L .some-attribute) (L .attributes))
-      (inside 1 mostTables (cat .n) (L .some-table) (L .tables)))
-      ∙ clear-tables (cat .n) 0
+      (inside 1 mostAttributes (cat .m) (S .sizes .m-low) (S .sizes .m-high))
+      (inside 1 mostTables (cat .n) (S .sizes .n-low) (S .sizes .n-high)),
+      clear-tables (cat .n) 0
       (λ t l h.
       let n : t < cat .n = omega arith in
       clear-fault (cat .m) lent (firstCell cat t) (schemeOf cat t) (countOf cat t)
       (record {
-        some = L .some-scheme t n;
-        low = L .scheme t n;
-        few = L .rows t n;
-        most = omega (arith, table-ends cat lent L t n, L .cells);
-        room = omega (arith, table-ends cat lent L t n, L .room);
-      }))
+        some = S .some-scheme t n;
+        low = S .scheme t n;
+        few = S .rows t n;
+        most = omega (arith, table-ends cat t n, S .cells);
+        room = omega (arith, table-ends cat t n, S .room);
+      })))
+
+-- ---- 16
+
+module _ (cat : Catalogue) (t : ℕ) where
+  pub place-wrong : (placeIn cat t ≡ firstCell cat t → ⊥) → misstored cat t ≡ true
+  unfolding misstored
+  place-wrong h = rw (ne-eqb (placeIn cat t) (firstCell cat t) h)
+
+  pub mask-wrong : (maskIn cat t ≡ touchingOf cat t → ⊥) → misstored cat t ≡ true
+  unfolding misstored
+  mask-wrong h = or-right (not (eqb (placeIn cat t) (firstCell cat t))) (ap not (ne-eqb (maskIn cat t) (touchingOf cat t) h))
+
+  pub stored-right : placeIn cat t ≡ firstCell cat t → maskIn cat t ≡ touchingOf cat t → misstored cat t ≡ false
+  unfolding misstored
+  stored-right p m = rw (eq-eqb (placeIn cat t) (firstCell cat t) p, eq-eqb (maskIn cat t) (touchingOf cat t) m)
+
+  pub right-stored : misstored cat t ≡ false → (placeIn cat t ≡ firstCell cat t) × (maskIn cat t ≡ touchingOf cat t)
+  right-stored h = (
+    elim (ℕ-discrete (placeIn cat t) (firstCell cat t)) [
+      | yes e ↦ e
+      | no g ↦ absurd (clash (place-wrong g) h)
+    ],
+    elim (ℕ-discrete (maskIn cat t) (touchingOf cat t)) [
+      | yes e ↦ e
+      | no g ↦ absurd (clash (mask-wrong g) h)
+    ],
+  )
+
+module _ (cat : Catalogue) where
+  pub stored-bad : (t : ℕ) → t < cat .n → misstored cat t ≡ true → storedFault cat ≡ 16
+  unfolding storedFault
+  stored-bad t l h = rw (any-of (cat .n) (misstored cat) t l h)
+
+  pub stored-good : ((t : ℕ) → t < cat .n → misstored cat t ≡ false) → storedFault cat ≡ 0
+  unfolding storedFault
+  stored-good h = rw (any-none (cat .n) (misstored cat) h)
+
+  pub good-stored : storedFault cat ≡ 0 → (t : ℕ) → t < cat .n → misstored cat t ≡ false
+  good-stored e t l = not-yes (misstored cat t) (λ y. absurd (omega (arith, e, stored-bad t l y)))
+
+-- ---- the whole
+
+module _ (cat : Catalogue) (lent : ℕ) where
+  -- No fault in the whole is none of the tables and none in what is stored of them.
+  pub catalogue-split : (catalogueFault cat lent ≡ 0) ↔ ((shapeFault cat lent ≡ 0) × (storedFault cat ≡ 0))
+  unfolding catalogueFault
+  catalogue-split = (
+    λ e. first-clear (shapeFault cat lent) (storedFault cat) e,
+    λ f. first-none (shapeFault cat lent) (storedFault cat) (f .0) ∙ f .1,
+  )
+
+  -- A catalogue without fault is lawful,
+  pub fault-lawful : catalogueFault cat lent ≡ 0 → Lawful cat lent
+  fault-lawful e =
+      let f = catalogue-split .0 e in
+      let S = shape-clear cat lent (f .0) in
+      let right : (t : ℕ) → t < cat .n → (placeIn cat t ≡ firstCell cat t) × (maskIn cat t ≡ touchingOf cat t) =
+      λ t l. right-stored cat t (good-stored cat (f .1) t l) in
+      record {
+        some-attribute = S .sizes .m-low;
+        attributes = S .sizes .m-high;
+        some-table = S .sizes .n-low;
+        tables = S .sizes .n-high;
+        some-scheme = S .some-scheme;
+        scheme = S .scheme;
+        rows = S .rows;
+        cells = S .cells;
+        room = S .room;
+        places = λ t l. right t l .0;
+        touching = λ t l. right t l .1;
+      }
+
+  -- and a lawful one has no fault.
+  pub lawful-fault : Lawful cat lent → catalogueFault cat lent ≡ 0
+  lawful-fault L =
+      catalogue-split .1
+      (clear-shape cat lent (lawful-shaped L), stored-good cat (λ t l. stored-right cat t (L .places t l) (L .touching t l)))

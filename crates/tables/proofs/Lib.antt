@@ -1,3 +1,4 @@
 pub mod CatalogueLaws
 pub mod RowLaws
 pub mod CheckLaws
+pub mod StoredLaws

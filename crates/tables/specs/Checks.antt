@@ -1,12 +1,16 @@
--- The refusals that a catalogue can meet (4, 5, 6, 8), each by its line of document 01's table, in their order; 0 stands for none.
+-- The refusals that a catalogue can meet (4, 5, 6, 8; 16), each by its line of document 01's table or of #106, in their order; 0 stands for none.
 -- And what a catalogue that meets none is known to be. The law that ties the two stands in proofs/CheckLaws. Assumes nothing.
 use Prim.Native.Nat.{ℕ, zero, suc, _+_, _*_, _^_, _≤_, _<_}
-use mathlib.Core.Bool.{Bool, cond, _||_}
+use mathlib.Core.Path.{_≡_}
+use mathlib.Core.Bool.{Bool, not, cond, _||_}
+use mathlib.Core.List.{List}
 use lib.Count.{ones}
 use lib.Dec.{ltb, leb, eqb}
 use Rattle.tables.specs.declared.Catalogue.{Catalogue}
+use Rattle.tables.specs.declared.Made.{Made}
 use Rattle.tables.specs.Sizes.{mostAttributes, mostTables, mostRows, mostCells}
-use Rattle.tables.specs.Catalogues.{schemeOf, countOf, firstCell}
+use Rattle.laws.specs.Tests.{any}
+use Rattle.tables.specs.Catalogues.{schemeOf, countOf, firstCell, touchingOf, filled, given, noTables, placeIn, maskIn}
 
 -- The first of two refusals, in the order in which they are looked for.
 abbrev pub firstOf : ℕ → ℕ → ℕ
@@ -47,8 +51,20 @@ tablesFault (suc k) cat lent t =
     (tablesFault k cat lent (t + 1))
 
 -- "Open checks the catalogue (4; then table by table 5, 6, 8)". `lent` is how many cells are lent.
+unfoldable pub shapeFault : Catalogue → ℕ → ℕ
+shapeFault cat lent = firstOf (sizeFault (cat .m) (cat .n)) (tablesFault (cat .n) cat lent 0)
+
+-- "16, a stored place or mask isn't the one worked out": that of table t.
+unfoldable pub misstored : Catalogue → ℕ → Bool
+misstored cat t = not (eqb (placeIn cat t) (firstCell cat t)) || not (eqb (maskIn cat t) (touchingOf cat t))
+
+-- Entries from n on are "ignored there when read".
+unfoldable pub storedFault : Catalogue → ℕ
+storedFault cat = cond (any (cat .n) (misstored cat)) 16 0
+
+-- 16 comes "after 4, 5, 6 and 8 wherever a catalogue is lent".
 unfoldable pub catalogueFault : Catalogue → ℕ → ℕ
-catalogueFault cat lent = firstOf (sizeFault (cat .m) (cat .n)) (tablesFault (cat .n) cat lent 0)
+catalogueFault cat lent = firstOf (shapeFault cat lent) (storedFault cat)
 
 -- What a catalogue without fault is known to be; all its cells lie among those that are lent.
 pub record Lawful (cat : Catalogue) (lent : ℕ) : Type 0 where
@@ -61,3 +77,16 @@ pub record Lawful (cat : Catalogue) (lent : ℕ) : Type 0 where
   pub rows : (t : ℕ) → t < cat .n → countOf cat t ≤ mostRows
   pub cells : firstCell cat (cat .n) ≤ mostCells
   pub room : firstCell cat (cat .n) ≤ lent
+  pub places : (t : ℕ) → t < cat .n → placeIn cat t ≡ firstCell cat t
+  pub touching : (t : ℕ) → t < cat .n → maskIn cat t ≡ touchingOf cat t
+
+-- ---- tables made by hand
+
+-- "Load and all else that makes a catalogue fill them": the catalogue of such tables with both filled, or a catalogue of zeros where they are refused.
+abbrev pub madeIf : ℕ → Catalogue → Made
+madeIf zero cat = record { refusal = 0; catalogue = filled cat }
+madeIf (suc k) cat = record { refusal = suc k; catalogue = noTables }
+
+-- What is promised to a caller who says m, n, schemes and row counts: the first of 4, 5, 6 and 8, with room for as many cells as there can be, decides.
+abbrev pub Makes : ℕ → ℕ → List ℕ → List ℕ → Made → Type 0
+Makes m n schemes rows r = r ≡ madeIf (shapeFault (given m n schemes rows) mostCells) (given m n schemes rows)

@@ -13,7 +13,7 @@ sampleBytes =
     ∷ 0x05 ∷ 0x02 ∷ 0x02 ∷ 0x08 ∷ 0x03 ∷ 0x00
     ∷ []
 
--- Three tables over the attributes {0,1}, {1,2} and {0,2}, each with two rows.
+-- Three tables over the attributes {0,1}, {1,2} and {0,2}, each with two rows of two cells, and each touching the other two.
 unfoldable pub three : Catalogue
 three =
     record {
@@ -21,6 +21,8 @@ three =
       n = 3;
       schemes = 3 ∷ 6 ∷ 5 ∷ 0 ∷ 0 ∷ 0 ∷ 0 ∷ 0 ∷ [];
       rows = 2 ∷ 2 ∷ 2 ∷ 0 ∷ 0 ∷ 0 ∷ 0 ∷ 0 ∷ [];
+      places = 0 ∷ 4 ∷ 8 ∷ 0 ∷ 0 ∷ 0 ∷ 0 ∷ 0 ∷ [];
+      touching = 6 ∷ 5 ∷ 3 ∷ 0 ∷ 0 ∷ 0 ∷ 0 ∷ 0 ∷ [];
     }
 
 -- Their rows, as codes: (1, 10), (2, 20); (10, 7), (4294967306, 9); (1, 7), (2, null).

@@ -1,17 +1,30 @@
-// The catalogue: what it says of each table, where a row's cells lie, and which refusal it meets.
+// The catalogue: what it says of each table, where a row's cells lie, which tables touch, and which refusal it meets.
 ghost use mathlib.Core.Path.{_≡_};
+ghost use mathlib.Core.Bool.{not, cond, _&&_};
 ghost use Prim.Native.Nat.{_%_, _^_, _≤_, _<_};
+ghost use lib.Bits.{bitAnd};
 ghost use lib.Count.{ones};
-ghost use Rattle.tables.specs.Sizes.{mostCells};
-ghost use Rattle.tables.specs.Catalogues.{countOf, firstCell, FirstCells, rowStart, total, rowAt};
-ghost use Rattle.tables.specs.Checks.{sizeFault, badScheme, countFault, tableFault, catalogueFault, Lawful};
+ghost use lib.Dec.{eqb};
+ghost use Rattle.tables.specs.Sizes.{mostTables, mostCells};
+ghost use Rattle.tables.specs.Catalogues.{countOf, schemeOf, firstCell, touch, touchingOf, filled, given, noTables, rowStart, total, rowAt};
+ghost use Rattle.tables.specs.Checks.{sizeFault, badScheme, countFault, tableFault, shapeFault, misstored, storedFault, catalogueFault, Lawful, Makes};
 
-// "One record with m, n, and eight schemes and eight row counts"; entries from n on are ignored.
+// "One record with m, n, and eight schemes and eight row counts", and "eight first-cell places and eight masks of touching tables": bit u of table t's
+// mask says that t and u touch. Entries from n on are ignored.
+// A place is at most 8,192 and a mask has a bit a table, so two bytes hold either: a catalogue is handed down by value.
 pub struct Catalogue {
     pub m: usize,
     pub n: usize,
     pub schemes: [u64; 8],
     pub rows: [u16; 8],
+    pub places: [u16; 8],
+    pub touching: [u16; 8],
+}
+
+// What a caller who made tables by hand gets: their refusal (0 for none), and the catalogue, of zeros where they are refused.
+pub struct Made {
+    pub refusal: usize,
+    pub catalogue: Catalogue,
 }
 
 // A row: its table from 0, and its number in it from 1.
@@ -108,10 +121,10 @@ pub fn table_fault(m: usize, lent: usize, used: usize, scheme: u64, rows: u64) -
     count_fault(lent, used, scheme, rows)
 }
 
-// The first refusal of the whole catalogue (4; then table by table 5, 6, 8), or 0; `lent` cells are lent.
-// Open and the stream calls make this test first, so that all behind it may rely on a lawful catalogue; the writer makes it table by table.
-pub fn fault(cat: Catalogue, lent: usize) -> usize
-    ensures { λ r. ⌜ r ≡ catalogueFault cat lent ⌝ }
+// The first of 4 and, table by table, 5, 6 and 8, or 0; `lent` cells are lent.
+// What is stored of the tables is not looked at here, since it is worked out from what this test lets pass.
+fn shape_fault(cat: Catalogue, lent: usize) -> usize
+    ensures { λ r. ⌜ r ≡ shapeFault cat lent ⌝ }
 {
     let m = cat.m;
     let n = cat.n;
@@ -134,6 +147,140 @@ pub fn fault(cat: Catalogue, lent: usize) -> usize
     0
 }
 
+// The bit of table u in table t's mask: 0 where they do not touch.
+// A table never touches itself.
+fn touch_bit(cat: Catalogue, t: usize, u: usize) -> u16
+    requires { ⌜ (t < mostTables) × (u < mostTables) ⌝ }
+    ensures { λ r. ⌜ r ≡ cond (touch cat t u) (2 ^ u) 0 ⌝ }
+{
+    if u == t {
+        return 0;
+    }
+    let shared = cat.schemes[t] & cat.schemes[u];
+    if shared == 0 {
+        return 0;
+    }
+    1 << u
+}
+
+// The mask of the tables that touch table t.
+// It is worked out where a catalogue is made and where a stored one is checked; everything else reads the stored one.
+fn touching_of(cat: Catalogue, t: usize) -> u16
+    requires { ⌜ (t < cat .n) × (cat .n ≤ mostTables) ⌝ }
+    ensures { λ r. ⌜ r ≡ touchingOf cat t ⌝ }
+{
+    let n = cat.n;
+    let mut mask: u16 = 0;
+    let mut u: usize = 0;
+    while u < n {
+        mask = mask + touch_bit(cat, t, u);
+        u = u + 1;
+    }
+    mask
+}
+
+// 16 where a stored place or mask below n is not the one worked out, else 0.
+// Behind this test both are read and never worked out again.
+fn stored_fault(cat: Catalogue) -> usize
+    requires { ⌜ (cat .n ≤ mostTables) × (firstCell cat (cat .n) ≤ mostCells) ⌝ }
+    ensures { λ r. ⌜ r ≡ storedFault cat ⌝ }
+{
+    let n = cat.n;
+    let mut at: usize = 0;
+    let mut t: usize = 0;
+    while t < n {
+        if cat.places[t] as usize != at {
+            return 16;
+        }
+        if cat.touching[t] != touching_of(cat, t) {
+            return 16;
+        }
+        at = at + (cat.rows[t] as usize) * width(cat.schemes[t]);
+        t = t + 1;
+    }
+    0
+}
+
+// The first refusal of the whole catalogue (4; then table by table 5, 6, 8; then 16), or 0; `lent` cells are lent.
+// Whatever a catalogue is lent to makes this test first, so that all behind it may rely on a lawful catalogue.
+pub fn fault(cat: Catalogue, lent: usize) -> usize
+    ensures { λ r. ⌜ r ≡ catalogueFault cat lent ⌝ }
+{
+    let f = shape_fault(cat, lent);
+    if f != 0 {
+        return f;
+    }
+    stored_fault(cat)
+}
+
+// The catalogue with places and masks worked out; those that it came with are not looked at.
+pub fn filled(cat: Catalogue) -> Catalogue
+    requires { ⌜ (cat .n ≤ mostTables) × (firstCell cat (cat .n) ≤ mostCells) ⌝ }
+    ensures { λ r. ⌜ r ≡ filled cat ⌝ }
+{
+    let n = cat.n;
+    let mut places: [u16; 8] = [0; 8];
+    let mut touching: [u16; 8] = [0; 8];
+    let mut at: usize = 0;
+    let mut t: usize = 0;
+    while t < n {
+        places[t] = at as u16;
+        touching[t] = touching_of(cat, t);
+        at = at + (cat.rows[t] as usize) * width(cat.schemes[t]);
+        t = t + 1;
+    }
+    Catalogue {
+        m: cat.m,
+        n,
+        schemes: cat.schemes,
+        rows: cat.rows,
+        places,
+        touching,
+    }
+}
+
+// What is said of tables, with nothing worked out yet.
+pub fn given(m: usize, n: usize, schemes: [u64; 8], rows: [u16; 8]) -> Catalogue
+    ensures { λ r. ⌜ r ≡ given m n schemes rows ⌝ }
+{
+    Catalogue {
+        m,
+        n,
+        schemes,
+        rows,
+        places: [0; 8],
+        touching: [0; 8],
+    }
+}
+
+// A catalogue of zeros: what is given where there is a refusal.
+pub fn no_tables() -> Catalogue
+    ensures { λ r. ⌜ r ≡ noTables ⌝ }
+{
+    given(0, 0, [0; 8], [0; 8])
+}
+
+// The catalogue of tables made by hand, places and masks filled, or the first of 4, 5, 6 and 8 with a catalogue of zeros.
+// No cells are lent yet, so there is room for as many as there can be.
+pub fn make_catalogue(m: usize, n: usize, schemes: [u64; 8], rows: [u16; 8]) -> Made
+    ensures { λ r. ⌜ Makes m n schemes rows r ⌝ }
+{
+    let cat = given(m, n, schemes, rows);
+    let f = shape_fault(cat, 8192);
+    if f != 0 {
+        let catalogue = no_tables();
+        return Made {
+            refusal: f,
+            catalogue,
+        };
+    }
+    let catalogue = filled(cat);
+    Made {
+        refusal: 0,
+        catalogue,
+    }
+}
+
 // N: how many rows all tables have together.
 pub fn total_rows(cat: Catalogue) -> usize
     requires { ⌜ Lawful cat mostCells ⌝ }
@@ -149,44 +296,12 @@ pub fn total_rows(cat: Catalogue) -> usize
     sum
 }
 
-// Where the cells of table t begin.
-pub fn first_cell(cat: Catalogue, table: usize) -> usize
-    requires { ⌜ Lawful cat mostCells × (table ≤ cat .n) ⌝ }
-    ensures { λ r. ⌜ r ≡ firstCell cat table ⌝ }
-{
-    let mut at: usize = 0;
-    let mut t: usize = 0;
-    while t < table {
-        at = at + (cat.rows[t] as usize) * width(cat.schemes[t]);
-        t = t + 1;
-    }
-    at
-}
-
-// Where the cells of each table begin; entries from n on are 0.
-// Worked out once, it serves every row that is read.
-pub fn first_cells(cat: Catalogue) -> [usize; 8]
-    requires { ⌜ Lawful cat mostCells ⌝ }
-    ensures { λ r. ⌜ FirstCells cat r ⌝ }
-{
-    let n = cat.n;
-    let mut firsts: [usize; 8] = [0; 8];
-    let mut at: usize = 0;
-    let mut t: usize = 0;
-    while t < n {
-        firsts[t] = at;
-        at = at + (cat.rows[t] as usize) * width(cat.schemes[t]);
-        t = t + 1;
-    }
-    firsts
-}
-
 // Where the cells of a row begin.
 pub fn row_start(cat: Catalogue, table: usize, row: usize) -> usize
     requires { ⌜ Lawful cat mostCells × (table < cat .n) × (row ≤ countOf cat table) × (1 ≤ row) ⌝ }
     ensures { λ r. ⌜ r ≡ rowStart cat table row ⌝ }
 {
-    first_cell(cat, table) + (row - 1) * width(cat.schemes[table])
+    cat.places[table] as usize + (row - 1) * width(cat.schemes[table])
 }
 
 // The row at a place in row order.

@@ -1,15 +1,15 @@
--- The laws of a word's bits: what tells two words apart, the bits of `&` and `|`, the lowest set bit, a bit taken away, the lowest one by a mask, and
+-- The laws of a word's bits: what tells two words apart, the bits of `&`, `|` and `^`, the lowest set bit, a bit taken away, the lowest one by a mask, and
 -- how many ones are left as they go one after the other. Assumes nothing.
 use Prim.Native.Nat.{ℕ, zero, suc, _+_, _-_, _*_, _/_, _%_, _^_, _≤_, _<_}
 use mathlib.Core.Path.{_≡_, refl, sym, ap, ap₂, subst, _∙_}
-use mathlib.Core.Bool.{Bool, true, false, not, _&&_, _||_, true≢false}
+use mathlib.Core.Bool.{Bool, true, false, not, cond, _&&_, _||_, true≢false}
 use mathlib.Core.Logic.{_≢_, ⊎-elim}
 use native.Mathlib.Omega.{arith}
 use native.Mathlib.Decide.{decLt}
 use native.Mathlib.Numerals.{add-one}
 use native.Mathlib.Nat.{mod-lt, min-zero, zero-div, pow-suc, pow-zero, mul-suc, mul-zero, suc-mul, div-eq-of-lt, div-self, lt-of-lt-of-le}
 use lib.Arith.{lt-one}
-use lib.Bits.{bitAnd, bitOr, and-step, and-zero-l, and-self, and-block, and-shr, and-mod, and-lt, or-shr, or-mod}
+use lib.Bits.{bitAnd, bitOr, bitXor, and-step, and-zero-l, and-self, and-block, and-shr, and-mod, and-lt, or-shr, or-mod, xor-shr, xor-mod}
 use lib.Count.{ones, ones-step, ones-cat, ones-le, trailingZeros, under}
 use lib.Dec.{eqb}
 use lib.Pow.{pow-add, pow-pos, ones-lt, pow-mono, split, high, low, field, mod-mod-pow, recompose, shr-shr, shr-lt}
@@ -108,6 +108,12 @@ bit-and = bit-by-bit bitAnd _&&_ and-shr and-mod (digits (λ x y. eqb (bitAnd x 
 
 pub bit-or : (a b d : ℕ) → bitOf (bitOr a b) d ≡ bitOf a d || bitOf b d
 bit-or = bit-by-bit bitOr _||_ or-shr or-mod (digits (λ x y. eqb (bitOr x y) 1 ≡ eqb x 1 || eqb y 1) refl refl refl refl)
+
+-- Where the second word has a bit, the first one's is turned.
+pub bit-xor : (a b d : ℕ) → bitOf (bitXor a b) d ≡ cond (bitOf b d) (not (bitOf a d)) (bitOf a d)
+bit-xor =
+    bit-by-bit bitXor (λ x y. cond y (not x) x) xor-shr xor-mod
+    (digits (λ x y. eqb (bitXor x y) 1 ≡ cond (eqb y 1) (not (eqb x 1)) (eqb x 1)) refl refl refl refl)
 
 -- Words that have no bit in common, and words that have one.
 pub apart-zero : (N a b : ℕ) → a < 2 ^ N → b < 2 ^ N → ((d : ℕ) → d < N → bitOf a d && bitOf b d ≡ false) → bitAnd a b ≡ 0

@@ -17,7 +17,7 @@ use Rattle.laws.proofs.TestLaws.{which, clash}
 use Rattle.numbers.specs.Numbers.{mostBytes, encodeIn, encode}
 use Rattle.tables.specs.declared.Catalogue.{Catalogue}
 use Rattle.tables.specs.Sizes.{mostTables, mostRows, mostCells, version}
-use Rattle.tables.specs.Catalogues.{schemeOf, countOf, firstCell}
+use Rattle.tables.specs.Catalogues.{schemeOf, countOf, firstCell, placeIn}
 use Rattle.tables.specs.Rows.{below}
 use Rattle.tables.proofs.CatalogueLaws.{cells-next, table-ends}
 use Rattle.writer.specs.declared.Written.the-variants.{Length, Refused}
@@ -203,24 +203,22 @@ module _ (cat : Catalogue) (cells : List ℕ) where
     pub most : used + countOf cat t * w ≤ mostCells
     pub inside : used + countOf cat t * w ≤ length cells
     pub low : tooHigh (part used (countOf cat t * w) cells) ≡ false
-    pub next : used + countOf cat t * w ≡ firstCell cat (t + 1)
     pub bytes : tablesImage (cat .n - t) cat cells t ≡ tableBytes cat cells t used w ++ tablesImage (cat .n - (t + 1)) cat cells (t + 1)
     pub size : length (tablesImage (cat .n - t) cat cells t) ≡ length (tableBytes cat cells t used w) + length (tablesImage (cat .n - (t + 1)) cat cells (t + 1))
     pub three : length (tableBytes cat cells t used w) ≡ tableLength cat cells t used w
 
-  pub table-good : writeFault cat cells ≡ 0 → (t used w : ℕ) → t < cat .n → used ≡ firstCell cat t → w ≡ ones (schemeOf cat t) → Table t used w
-  table-good e t used w h u v =
+  pub table-good : writeFault cat cells ≡ 0 → (t w : ℕ) → t < cat .n → w ≡ ones (schemeOf cat t) → Table t (placeIn cat t) w
+  table-good e t w h v =
       let A = fault-accepted cat cells e in
       let L = A .lawful in
-      let ends = table-ends cat (length cells) L t h in
+      let ends = table-ends cat t h in
       let k : cat .n - t ≡ suc (cat .n - (t + 1)) = omega arith in
-      rw (u, v) (record {
+      rw (L .places t h, v) (record {
         scheme = omega (arith, L .scheme t h, pow-le-pow-right {n = 2} (omega arith) (L .attributes));
         rows = L .rows t h;
         most = omega (arith, ends, L .cells);
         inside = omega (arith, ends, L .room);
         low = rows-low cells (ones (schemeOf cat t)) (countOf cat t) true 0 (firstCell cat t) (A .rows t h);
-        next = sym (cells-next cat t);
         bytes = image-more (cat .n - t) (cat .n - (t + 1)) t k;
         size = image-length (cat .n - t) (cat .n - (t + 1)) t k;
         three = table-three t;

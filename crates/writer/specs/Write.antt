@@ -1,5 +1,6 @@
 -- "Write checks in image order: 4 (m, then n); per table 5, 6, 8; per row 10, then 7; last 11. A refusal writes nothing. Success gives the
--- length; bytes behind it stay." Assumes nothing.
+-- length; bytes behind it stay." #106 puts 16 "after these over all tables and before the first cell", so that 5, 6 and 8 of every table come before
+-- the rows of the first. Assumes nothing.
 use Prim.Native.Nat.{ℕ, zero, suc, _+_, _*_, _^_, _<_}
 use mathlib.Core.Path.{_≡_}
 use mathlib.Core.List.{List, [], _∷_, _++_}
@@ -12,7 +13,7 @@ use Rattle.numbers.specs.Numbers.{encode}
 use Rattle.tables.specs.declared.Catalogue.{Catalogue}
 use Rattle.tables.specs.Catalogues.{schemeOf, countOf, firstCell}
 use Rattle.tables.specs.Rows.{below}
-use Rattle.tables.specs.Checks.{firstOf, sizeFault, tableFault, Lawful}
+use Rattle.tables.specs.Checks.{firstOf, catalogueFault, Lawful}
 use Rattle.tables.specs.Sizes.{version}
 use Rattle.writer.specs.declared.Written.{Written}
 use Rattle.writer.specs.declared.Written.the-variants.{Length, Refused}
@@ -49,25 +50,23 @@ rowsFault (suc k) w cells first before at =
     cond (tooHigh (part at w cells)) 10
     (cond (first || below (part before w cells) (part at w cells)) (rowsFault k w cells false at (at + w)) 7)
 
--- Table t: 5, 6, 8, then its rows.
-abbrev pub tableRefusal : Catalogue → List ℕ → ℕ → ℕ
-tableRefusal cat cells t =
-    firstOf (tableFault (cat .m) (length cells) (firstCell cat t) (schemeOf cat t) (countOf cat t))
-    (rowsFault (countOf cat t) (ones (schemeOf cat t)) cells true 0 (firstCell cat t))
+-- The rows of table t.
+abbrev pub rowsRefusal : Catalogue → List ℕ → ℕ → ℕ
+rowsRefusal cat cells t = rowsFault (countOf cat t) (ones (schemeOf cat t)) cells true 0 (firstCell cat t)
 
--- k tables from table t on.
-unfoldable pub tablesRefusal : ℕ → Catalogue → List ℕ → ℕ → ℕ
-tablesRefusal zero cat cells t = 0
-tablesRefusal (suc k) cat cells t = firstOf (tableRefusal cat cells t) (tablesRefusal k cat cells (t + 1))
+-- The rows of k tables from table t on.
+unfoldable pub cellsFault : ℕ → Catalogue → List ℕ → ℕ → ℕ
+cellsFault zero cat cells t = 0
+cellsFault (suc k) cat cells t = firstOf (rowsRefusal cat cells t) (cellsFault k cat cells (t + 1))
 
--- Everything but 11: 4, then table by table.
+-- Everything but 11: what the catalogue meets (4; 5, 6, 8; 16), then row by row.
 unfoldable pub writeFault : Catalogue → List ℕ → ℕ
-writeFault cat cells = firstOf (sizeFault (cat .m) (cat .n)) (tablesRefusal (cat .n) cat cells 0)
+writeFault cat cells = firstOf (catalogueFault cat (length cells)) (cellsFault (cat .n) cat cells 0)
 
 -- What tables without such a fault are known to be.
 pub record Accepted (cat : Catalogue) (cells : List ℕ) : Type 0 where
   pub lawful : Lawful cat (length cells)
-  pub rows : (t : ℕ) → t < cat .n → rowsFault (countOf cat t) (ones (schemeOf cat t)) cells true 0 (firstCell cat t) ≡ 0
+  pub rows : (t : ℕ) → t < cat .n → rowsRefusal cat cells t ≡ 0
 
 -- "11: the lent output .. is too short"
 unfoldable pub lengthFault : Catalogue → List ℕ → ℕ → ℕ

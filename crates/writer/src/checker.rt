@@ -75,31 +75,24 @@ fn rows_fault(cells: &[u64], start: usize, rows: usize, width: usize) -> usize
     0
 }
 
-// The first refusal of the tables (4; then table by table 5, 6, 8, 10, 7), or 0.
+// The first refusal of the tables (4; 5, 6, 8 table by table; 16; then the rows of all tables, each 10, then 7), or 0.
+// No cell is looked at before the whole catalogue is known to be lawful.
 pub fn fault(cat: Catalogue, cells: &[u64]) -> usize
     ensures { λ r. ⌜ r ≡ writeFault cat (now (cells .entry)) ⌝ }
 {
-    let m = cat.m;
-    let n = cat.n;
-    let sizes = tables::size_fault(m, n);
-    if sizes != 0 {
-        return sizes;
+    let f = tables::fault(cat, cells.len());
+    if f != 0 {
+        return f;
     }
-    let mut used: usize = 0;
+    let n = cat.n;
     let mut t: usize = 0;
     while t < n {
-        let scheme = cat.schemes[t];
-        let rows = cat.rows[t];
-        let f = tables::table_fault(m, cells.len(), used, scheme, rows as u64);
-        if f != 0 {
-            return f;
-        }
-        let width = tables::width(scheme);
-        let g = rows_fault(cells, used, rows as usize, width);
+        let start = cat.places[t] as usize;
+        let width = tables::width(cat.schemes[t]);
+        let g = rows_fault(cells, start, cat.rows[t] as usize, width);
         if g != 0 {
             return g;
         }
-        used = used + (rows as usize) * width;
         t = t + 1;
     }
     0
@@ -128,17 +121,16 @@ pub fn image_length(cat: Catalogue, cells: &[u64]) -> usize
 {
     let n = cat.n;
     let mut sum: usize = numbers::size(1) + numbers::size(cat.m as u64) + numbers::size(n as u64);
-    let mut used: usize = 0;
     let mut t: usize = 0;
     while t < n {
         let scheme = cat.schemes[t];
         let rows = cat.rows[t];
+        let from = cat.places[t] as usize;
         let count = (rows as usize) * tables::width(scheme);
         sum = sum
             + numbers::size(scheme)
             + numbers::size(rows as u64)
-            + run_size(cells, used, count);
-        used = used + count;
+            + run_size(cells, from, count);
         t = t + 1;
     }
     sum

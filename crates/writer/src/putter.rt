@@ -70,14 +70,13 @@ pub fn put_image(cat: Catalogue, cells: &[u64], out: &mut [u8])
 {
     let n = cat.n;
     let mut at = put_head(cat.m as u64, n as u64, out);
-    let mut used: usize = 0;
     let mut t: usize = 0;
     while t < n {
         let scheme = cat.schemes[t];
         let rows = cat.rows[t];
+        let from = cat.places[t] as usize;
         let count = (rows as usize) * tables::width(scheme);
-        at = put_table(scheme, rows as u64, cells, used, count, out, at);
-        used = used + count;
+        at = put_table(scheme, rows as u64, cells, from, count, out, at);
         t = t + 1;
     }
 }

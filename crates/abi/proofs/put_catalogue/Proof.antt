@@ -6,6 +6,7 @@ use mathlib.Core.Path.{_≡_, refl, sym, _∙_}
 use lib.ListN.{length, drop, length-set, drop-of-length-le}
 use Rattle.laws.specs.Lists.{put, over}
 use Rattle.laws.proofs.ListLaws.{put-nil, put-next}
+use Rattle.tables.specs.Sizes.{mostTables}
 use Rattle.abi.specs.Words.{catalogueWords, wordsOf}
 use Rattle.abi.proofs.WordLaws.{words-length}
 use Rattle.abi.proofs.put_catalogue.Statement.{statement}
@@ -23,9 +24,11 @@ abbrev μ-loop : tie.MeasureT-loop
 all-words : (c : tie.At-loop Inv-loop μ-loop) → length (wordsOf (c .before .before .args .cat)) ≡ catalogueWords
 all-words c =
     let a = c .before .before .args in
-    let s : length (a .cat .schemes) ≡ 8 = search needs in
-    let r : length (a .cat .rows) ≡ 8 = search needs in
-    words-length (a .cat) s r
+    let s : length (a .cat .schemes) ≡ mostTables = search needs in
+    let r : length (a .cat .rows) ≡ mostTables = search needs in
+    let p : length (a .cat .places) ≡ mostTables = search needs in
+    let t : length (a .cat .touching) ≡ mostTables = search needs in
+    words-length (a .cat) s r p t
 
 loop-holds : tie.Need-loop-holds Inv-loop μ-loop
 loop-holds c = (omega arith, refl, refl)

@@ -1,168 +1,45 @@
--- `sets::kept` meets its contract. Invariant: the tables passed are as the drop leaves them (`Keeping`). Assumes nothing.
-use borrow.Author.Needs.{needs}
+-- `sets::kept` meets its contract: the row comes in (`added-set`), and the rows that have to go are taken (`gone-dropped`). Assumes nothing.
 use native.Mathlib.Omega.{arith}
-use Prim.Native.Nat.{_-_}
-use mathlib.Core.Path.{_≡_, refl, _∙_}
-use mathlib.Core.Logic.{⊎-elim}
-use Rattle.rows.specs.World.{worldOf, setOf, placeOf}
-use Rattle.rows.proofs.WorldLaws.{row-room}
+use Rattle.keys.specs.Keys.{bitsPerRow}
+use Rattle.keys.proofs.SetLaws.{in-length}
+use Rattle.tables.proofs.CatalogueLaws.{one-shl}
+use Rattle.rows.specs.World.{setOf, placeOf}
 use Rattle.rows.proofs.NamedLaws.{row-small}
-use Rattle.sets.specs.Promises.{parts}
-use Rattle.sets.proofs.RowTestLaws.{start-of}
-use Rattle.sets.proofs.LayoutLaws.{Small, laid-small}
-use Rattle.sets.proofs.Dropping.{merged-one, member-room, Keeping, keep-start, keep-stay, keep-gone, keep-end}
+use Rattle.sets.proofs.Dropping.{gone-few, gone-under, gone-dropped, added-set}
 use Rattle.sets.proofs.kept.Statement.{statement}
 use Rattle.sets.proofs.kept.Tie as tie
 
-abbrev Inv-loop : tie.InvT-loop
-Inv-loop cells key x cat layout n table row merged w base attrs all₀ u₀ all u = Keeping cat cells key (placeOf x) all u
+parted-requires : tie.Need-parted-requires
+parted-requires c κs = c .before .pre
 
-abbrev μ-loop : tie.MeasureT-loop
-μ-loop cells key x cat layout n table row merged w base attrs all₀ u₀ all u = n - u
-
-element-copy-out-w : tie.Need-element-copy-out-w Inv-loop μ-loop
-element-copy-out-w c = search needs
-
-cast-w : tie.Need-cast-w Inv-loop μ-loop
-cast-w c = search needs
-
-mul-base : tie.Need-mul-base Inv-loop μ-loop
-mul-base c = search needs
-
-element-copy-out-base : tie.Need-element-copy-out-base Inv-loop μ-loop
-element-copy-out-base c = search needs
-
-cast-base : tie.Need-cast-base Inv-loop μ-loop
-cast-base c = search needs
-
-mul-merge-add : tie.Need-mul-merge-add Inv-loop μ-loop
-mul-merge-add c = search needs
-
-element-copy-out-merge-add : tie.Need-element-copy-out-merge-add Inv-loop μ-loop
-element-copy-out-merge-add c = search needs
-
-merge-add-requires : tie.Need-merge-add-requires Inv-loop μ-loop
-merge-add-requires c κs =
-    let s = c .before .before .before .before .before in
-    (s .pre .1 .wide _ (s .pre .3 .table), s .pre .3 .low, rw (start-of (s .args .t1) (s .args .x .table) _ _ (s .pre .1 .begins _ (s .pre .3 .table))) (row-room _ _ (s .pre .0) _ _ (s .pre .3)), refl)
-
-with-row-requires : tie.Need-with-row-requires Inv-loop μ-loop
+with-row-requires : tie.Need-with-row-requires
 with-row-requires c κs =
-    let s = c .before .before .before .before .before .before in
-    (omega (arith, s .pre .3 .table, s .pre .0 .tables), row-small _ _ (s .pre .0) _ _ (s .pre .3))
+    let s = c .before .before in
+    (omega (arith, s .pre .4 .table, s .pre .0 .tables), row-small _ _ (s .pre .0) _ _ (s .pre .4))
 
-loop-holds : tie.Need-loop-holds Inv-loop μ-loop
-loop-holds c =
-    let s = c .before .before .before .before .before .before .before in
-    keep-start _ _ _ _ (s .pre .3 .table) _ (c .with-row .ensures) (row-small _ _ (s .pre .0) _ _ (s .pre .3)) (s .pre .2 .low)
+shl-t11 : tie.Need-shl-t11
+shl-t11 c = let s = c .before .before .before in omega (arith, s .pre .4 .table, s .pre .0 .tables)
 
-element-copy-out-w-2 : tie.Need-element-copy-out-w-2 Inv-loop μ-loop
-element-copy-out-w-2 c = search needs
+without-requires : tie.Need-without-requires
+without-requires c κs =
+    let p = c .before .before in
+    let s = p .before .before in
+    gone-few (s .args .cat) (s .args .cells .now) _ (s .pre .0) (setOf (s .args .cat) (s .args .held .key)) (in-length bitsPerRow _ _)
+    (placeOf (s .args .x)) (s .pre .4) _ (s .pre .3) _ (p .parted .ensures)
 
--- what the layout has of table u is small
-small : (c : tie.In-loop Inv-loop μ-loop) → Small (c .before .before .before .before .before .before .before .before .before .args .t3) (c .before .loop .u)
-small c = let s = c .before .before .before .before .before .before .before .before .before in laid-small (s .args .t1) _ (s .pre .0) (s .args .cells .now) _ (s .pre .1) _ (c .loop-test .taken)
-
-cast-w-2 : tie.Need-cast-w-2 Inv-loop μ-loop
-cast-w-2 c = omega (arith, small (c .before) .width)
-
-mul-base-2 : tie.Need-mul-base-2 Inv-loop μ-loop
-mul-base-2 c = search needs
-
-element-copy-out-base-2 : tie.Need-element-copy-out-base-2 Inv-loop μ-loop
-element-copy-out-base-2 c = search needs
-
-cast-base-2 : tie.Need-cast-base-2 Inv-loop μ-loop
-cast-base-2 c = omega (arith, small (c .before .before) .first)
-
-mul-parted : tie.Need-mul-parted Inv-loop μ-loop
-mul-parted c = search needs
-
-element-copy-out-parted : tie.Need-element-copy-out-parted Inv-loop μ-loop
-element-copy-out-parted c = search needs
-
-parted-requires : tie.Need-parted-requires Inv-loop μ-loop
-parted-requires c κs =
-    let b = c .before .before .before .before .loop-test .taken in
-    let s = c .before .before .before .before .before .before .before .before .before .before .before .before .before in
-    (omega (arith, b, s .pre .0 .tables), s .pre .1 .wide _ b, member-room _ _ (s .pre .0) _ _ _ (s .pre .2) b (s .pre .1 .begins _ b))
-
--- what the comparison answers of the table
-abbrev start : tie.After-parted Inv-loop μ-loop → tie.Start Inv-loop μ-loop
-start c = c .before .before .before .before .before .before .before .before .before .before .before .before .before .before
-
-answer : (c : tie.After-parted Inv-loop μ-loop)
-    → c .parted .result
-    ≡ parts (worldOf (start c .args .t1) (start c .args .cells .now)) (setOf (start c .args .t1) (start c .args .key)) (placeOf (start c .args .x))
-    (c .before .before .before .before .before .before .loop .u)
-answer c =
-    let t = c .before .before .before .before .before in
-    let m = t .before .before .before in
-    let s = start c in
-    let b = t .loop-test .taken in
-    c .parted .ensures (s .args .t1)
-    (record {
-      lawful = s .pre .0;
-      named = s .pre .2;
-      table = b;
-      own = refl;
-      begins = s .pre .1 .begins _ b;
-      row = s .pre .3 .low;
-      merged = merged-one _ _ _ (s .pre .0) _ _ _ _ _ _ (s .pre .3) (s .pre .1 .begins _ (s .pre .3 .table)) refl (m .merge-add .ensures);
-    })
-
-with-row-requires-2 : tie.Need-with-row-requires-2 Inv-loop μ-loop
-with-row-requires-2 c κs = search needs
-
-add-u : tie.Need-add-u Inv-loop μ-loop
-add-u c = search needs
-
-loop-less : tie.Need-loop-less Inv-loop μ-loop
-loop-less c = search needs
-
-loop-again : tie.Need-loop-again Inv-loop μ-loop
-loop-again c =
-    let p = c .before in
-    let b = p .before .before .before .before .before .loop-test .taken in
-    let l = p .before .before .before .before .before .before in
-    let s = start p in
-    ⊎-elim
-    (λ w. keep-gone _ _ _ _ (s .pre .3 .table) _ _ (l .loop .inv) b _ (answer p) (w .0 .taken) _ (w .2 ∙ w .1 .ensures))
-    (λ w. rw (w .1) (keep-stay _ _ _ _ (s .pre .3 .table) _ _ (l .loop .inv) b _ (answer p) (w .0 .left)))
-    (c .if1 .came)
-
-returns : tie.Need-returns Inv-loop μ-loop
+returns : tie.Need-returns
 returns c =
-    let l = c .before in
-    let s = l .before .before .before .before .before .before .before .before in
-    keep-end _ _ _ _ (s .pre .3 .table) _ _ (l .loop .inv) (omega (arith, c .loop-test .left))
+    let p = c .before .before .before in
+    let s = p .before .before in
+    let T = setOf (s .args .cat) (s .args .held .key) in
+    rw (gone-dropped (s .args .cat) (s .args .cells .now) _ (s .pre .0) T (in-length bitsPerRow _ _) (placeOf (s .args .x)) (s .pre .4) _ (s .pre .3) _
+    (p .parted .ensures))
+    (c .without .ensures _ _
+    (added-set (s .args .cat) _ (s .pre .0) (s .args .held .key) _ (s .pre .2) (s .pre .3) (placeOf (s .args .x)) (s .pre .4) _ _
+    (c .before .before .with-row .ensures)
+    (one-shl _ (omega (arith, s .pre .4 .table, s .pre .0 .tables))))
+    (gone-under (s .args .cat) (s .args .cells .now) _ (s .pre .0) T (in-length bitsPerRow _ _) (placeOf (s .args .x)) (s .pre .4) _ (s .pre .3) _
+    (p .parted .ensures) _))
 
 pub kept-spec : {M : Type 1} → statement M
-kept-spec =
-    tie.close
-    (tie.spec
-    Inv-loop
-    μ-loop
-    element-copy-out-w
-    cast-w
-    mul-base
-    element-copy-out-base
-    cast-base
-    mul-merge-add
-    element-copy-out-merge-add
-    merge-add-requires
-    with-row-requires
-    loop-holds
-    element-copy-out-w-2
-    cast-w-2
-    mul-base-2
-    element-copy-out-base-2
-    cast-base-2
-    mul-parted
-    element-copy-out-parted
-    parted-requires
-    with-row-requires-2
-    add-u
-    loop-less
-    loop-again
-    returns)
+kept-spec = tie.close (tie.spec parted-requires with-row-requires shl-t11 without-requires returns)

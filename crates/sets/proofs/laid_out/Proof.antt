@@ -19,7 +19,7 @@ returns-3 : tie.Need-returns-3
 returns-3 c =
     let s = c .before .before .before .before .before .before in
     let l = c .before .before .before .before .measured .ensures (s .args .cells .now) in
-    record { begins = l .begins; before = l .before; wide = l .wide; all = l .all; rising = c .rising-tables .ensures }
+    record { before = l .before; wide = l .wide; all = l .all; rising = c .rising-tables .ensures }
 
 pub laid-out-spec : {M : Type 1} → statement M
 laid-out-spec = tie.close (tie.spec measured-requires returns returns-2 rising-tables-requires returns-3)

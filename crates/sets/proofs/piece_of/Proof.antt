@@ -1,95 +1,141 @@
--- `sets::piece_of` meets its contract. Invariant: the part is a connected part of the set that holds the row (`Joining`); each turn adds a table.
--- Assumes nothing.
+-- `sets::piece_of` meets its contract. Invariant: the set without the tables that are left is a connected part of it that holds the row (`Joining`); each turn
+-- takes a table from those that are left. Assumes nothing.
 use borrow.Author.Needs.{needs}
 use native.Mathlib.Omega.{arith}
-use Prim.Native.Nat.{ℕ, _-_, _<_}
-use mathlib.Core.Path.{_≡_, ap, _∙_}
-use Rattle.keys.specs.Keys.{bitsPerRow, rowOf, withRow}
-use Rattle.keys.proofs.KeyLaws.{row-lt}
+use Prim.Native.Nat.{_*_, _%_, _^_, _<_}
+use mathlib.Core.Path.{_≡_, refl, sym, _∙_}
+use mathlib.Core.Bool.{true}
+use mathlib.Core.List.{[]}
+use lib.ListN.{length}
+use Rattle.laws.proofs.TestLaws.{and-split}
+use Rattle.words.specs.Words.{bitOf}
+use Rattle.words.proofs.WordLaws.{bit-and, less-lt, less-bit}
+use Rattle.keys.specs.Keys.{bitsPerRow}
 use Rattle.keys.proofs.SetLaws.{in-length}
-use Rattle.disjunction.specs.Sets.{size}
-use Rattle.rows.specs.World.{setOf}
-use Rattle.rows.proofs.NamedLaws.{row-small}
-use Rattle.sets.proofs.Joining.{join-whole, Joining, join-start, join-next, join-less, join-end}
+use Rattle.tables.proofs.CatalogueLaws.{one-shl}
+use Rattle.disjunction.specs.Sets.{at}
+use Rattle.disjunction.specs.Rule.{rowIn}
+use Rattle.disjunction.proofs.RowSets.{member-table}
+use Rattle.rows.specs.World.{worldOf, setOf}
+use Rattle.rows.specs.Named.{There}
+use Rattle.rows.proofs.TouchLaws.{mask-small}
+use Rattle.walks.specs.Merged.{Under}
+use Rattle.sets.proofs.LackingLaws.{tables-of, tables-lt}
+use Rattle.sets.proofs.Joining.{Joining, join-start, join-next, join-end}
 use Rattle.sets.proofs.piece_of.Statement.{statement}
 use Rattle.sets.proofs.piece_of.Tie as tie
 
 abbrev Inv-loop : tie.InvT-loop
-Inv-loop all cat n table row part₀ attrs₀ part attrs = Joining cat all table row part attrs
+Inv-loop all cat table left₀ reach₀ left reach = Joining cat (setOf cat (all .key)) (rowIn (setOf cat (all .key)) table) left reach
 
 abbrev μ-loop : tie.MeasureT-loop
-μ-loop all cat n table row part₀ attrs₀ part attrs = n - size (setOf cat part)
+μ-loop all cat table left₀ reach₀ left reach = left
 
--- the table that joins is there
-turn : (f : tie.After-first-joining Inv-loop μ-loop) → (f .first-joining .result ≡ f .before .before .before .before .before .args .t1 .n → ⊥)
-    → f .first-joining .result < f .before .before .before .before .before .args .t1 .n
-turn f h = omega (arith, h, f .first-joining .ensures .within)
+-- the row of x's table is in the set
+has : (s : tie.Start Inv-loop μ-loop) → bitOf (s .args .all .tables) (s .args .x .table) ≡ true
+has s = tables-of _ _ (s .pre .2 .tables) _ (rw (s .pre .3) (s .pre .1 .low))
 
--- the key with its row
-joined : (c : tie.After-attrs2 Inv-loop μ-loop)
-    → c .before .with-row2 .result
-    ≡ withRow bitsPerRow (c .before .before .before .before .before .before .loop .part) (c .before .before .before .before .first-joining .result)
-    (rowOf bitsPerRow (c .before .before .before .before .before .before .before .before .before .args .all) (c .before .before .before .before .first-joining .result))
-joined c =
-    let f = c .before .before .before .before in
-    c .before .with-row2 .ensures ∙ ap (λ (x : ℕ). withRow bitsPerRow (f .before .before .loop .part) (f .first-joining .result) x) (c .before .before .row-of .ensures)
+-- and its bit is there
+bit : (s : tie.Start Inv-loop μ-loop) → 1 * 2 ^ s .args .x .table % 2 ^ 64 ≡ 2 ^ s .args .x .table
+bit s = one-shl _ (omega (arith, s .pre .1 .table, s .pre .0 .tables))
 
-with-row-requires : tie.Need-with-row-requires Inv-loop μ-loop
-with-row-requires c κs = (omega (arith, c .pre .1 .table, c .pre .0 .tables), row-small _ _ (c .pre .0) _ _ (c .pre .1))
+long : (s : tie.Start Inv-loop μ-loop) → length (setOf (s .args .t1) (s .args .all .key)) ≡ s .args .t1 .n
+long s = in-length bitsPerRow (s .args .t1 .n) (s .args .all .key)
 
-mul-attrs : tie.Need-mul-attrs Inv-loop μ-loop
-mul-attrs c = search needs
+-- x is there, as the set has it
+there : (s : tie.Start Inv-loop μ-loop) → There (s .args .t1) (s .args .x .table) (at (setOf (s .args .t1) (s .args .all .key)) (s .args .x .table))
+there s = rw (s .pre .3) (s .pre .1)
 
-element-copy-out-attrs : tie.Need-element-copy-out-attrs Inv-loop μ-loop
-element-copy-out-attrs c = search needs
+shl-left : tie.Need-shl-left Inv-loop μ-loop
+shl-left c = omega (arith, c .pre .1 .table, c .pre .0 .tables)
+
+sub-left : tie.Need-sub-left Inv-loop μ-loop
+sub-left c = rw (bit (c .before)) (less-bit _ _ (has (c .before)) .0)
+
+mul-reach : tie.Need-mul-reach Inv-loop μ-loop
+mul-reach c = search needs
+
+element-copy-out-reach : tie.Need-element-copy-out-reach Inv-loop μ-loop
+element-copy-out-reach c = search needs
+
+cast-reach : tie.Need-cast-reach Inv-loop μ-loop
+cast-reach c = let s = c .before .before in omega (arith, mask-small (s .args .t1) _ (s .pre .0) _ (s .pre .1 .table))
 
 loop-holds : tie.Need-loop-holds Inv-loop μ-loop
 loop-holds c =
     let s = c .before .before in
-    join-start _ _ (s .pre .0) _ _ _ (s .pre .1) (s .pre .2) _ (c .before .with-row .ensures)
+    join-start _ _ (s .pre .0) (setOf (s .args .t1) (s .args .all .key)) (long s) _ (there s) refl _ (s .pre .2 .tables) _ (bit s)
 
-returns : tie.Need-returns Inv-loop μ-loop
-returns c =
-    let s = c .before .before .before .before in
-    join-end _ _ (s .pre .0) _ _ _ (s .pre .1) (s .pre .2) _ _ (c .before .loop .inv)
-    (λ u l. join-whole (s .args .t1) _ _ u (in-length bitsPerRow _ _) (ap (setOf (s .args .t1)) (c .if1 .taken)))
+lowest-requires : tie.Need-lowest-requires Inv-loop μ-loop
+lowest-requires c κs = omega (arith, c .loop-test .taken)
 
-first-joining-requires : tie.Need-first-joining-requires Inv-loop μ-loop
-first-joining-requires c κs = (c .before .before .before .before .pre .0, c .before .loop .inv .attributes)
+abbrev walk : tie.After-lowest Inv-loop μ-loop → tie.At-loop Inv-loop μ-loop
+walk a = a .before .before
 
-returns-2 : tie.Need-returns-2 Inv-loop μ-loop
-returns-2 c =
-    let f = c .before in
-    let s = f .before .before .before .before .before in
-    join-end _ _ (s .pre .0) _ _ _ (s .pre .1) (s .pre .2) _ _ (f .before .before .loop .inv) (λ u l. f .first-joining .ensures .before u (rw (c .if2 .taken) l))
+abbrev start : tie.At-loop Inv-loop μ-loop → tie.Start Inv-loop μ-loop
+start l = l .before .before .before
 
-row-of-requires : tie.Need-row-of-requires Inv-loop μ-loop
-row-of-requires c κs = let f = c .before in omega (arith, turn f (c .if2 .left), f .before .before .before .before .before .pre .0 .tables)
+-- the table that joins is one of those left
+left : (a : tie.After-lowest Inv-loop μ-loop) → bitOf (walk a .loop .left) (a .lowest .result) ≡ true
+left a = let l = walk a in and-split _ _ (sym (bit-and (l .loop .left) (l .loop .reach) (a .lowest .result)) ∙ a .lowest .ensures .itself) .0
 
-with-row-requires-2 : tie.Need-with-row-requires-2 Inv-loop μ-loop
-with-row-requires-2 c κs =
-    let f = c .before .before in
-    (omega (arith, turn f (c .before .if2 .left), f .before .before .before .before .before .pre .0 .tables), rw (c .row-of .ensures) (row-lt bitsPerRow _ _))
+turn : (a : tie.After-lowest Inv-loop μ-loop) → a .lowest .result < start (walk a) .args .t1 .n
+turn a =
+    let l = walk a in
+    let s = start l in
+    member-table (worldOf (s .args .t1) []) (setOf (s .args .t1) (s .args .all .key)) (long s) _ (l .loop .inv .within _ (left a))
 
-mul-attrs-2 : tie.Need-mul-attrs-2 Inv-loop μ-loop
-mul-attrs-2 c = search needs
+bit-2 : (a : tie.After-lowest Inv-loop μ-loop) → 1 * 2 ^ a .lowest .result % 2 ^ 64 ≡ 2 ^ a .lowest .result
+bit-2 a = one-shl _ (omega (arith, turn a, start (walk a) .pre .0 .tables))
 
-element-copy-out-attrs-2 : tie.Need-element-copy-out-attrs-2 Inv-loop μ-loop
-element-copy-out-attrs-2 c = search needs
+shl-left-2 : tie.Need-shl-left-2 Inv-loop μ-loop
+shl-left-2 c = omega (arith, turn c, start (walk c) .pre .0 .tables)
+
+sub-left-2 : tie.Need-sub-left-2 Inv-loop μ-loop
+sub-left-2 c = rw (bit-2 c) (less-bit _ _ (left c) .0)
+
+mul-reach-2 : tie.Need-mul-reach-2 Inv-loop μ-loop
+mul-reach-2 c = omega (arith, turn c, start (walk c) .pre .0 .tables)
+
+element-copy-out-reach-2 : tie.Need-element-copy-out-reach-2 Inv-loop μ-loop
+element-copy-out-reach-2 c = omega (arith, turn c, start (walk c) .pre .0 .tables)
+
+cast-reach-2 : tie.Need-cast-reach-2 Inv-loop μ-loop
+cast-reach-2 c =
+    let a = c .before in
+    let s = start (walk a) in
+    omega (arith, mask-small (s .args .t1) _ (s .pre .0) _ (turn a))
 
 loop-less : tie.Need-loop-less Inv-loop μ-loop
-loop-less c =
-    let f = c .before .before .before .before in
-    let s = f .before .before .before .before .before in
-    let l = turn f (c .before .before .before .if2 .left) in
-    join-less _ _ (s .pre .0) _ _ _ (s .pre .1) (s .pre .2) _ _ (f .before .before .loop .inv) _ l (f .first-joining .ensures .found l) _ (joined c)
+loop-less c = let a = c .before in rw (bit-2 a) (less-lt _ _ (left a))
 
 loop-again : tie.Need-loop-again Inv-loop μ-loop
 loop-again c =
-    let f = c .before .before .before .before in
-    let s = f .before .before .before .before .before in
-    let l = turn f (c .before .before .before .if2 .left) in
-    join-next _ _ (s .pre .0) _ _ _ (s .pre .1) (s .pre .2) _ _ (f .before .before .loop .inv) _ l (f .first-joining .ensures .found l) _ (joined c)
+    let a = c .before in
+    let l = walk a in
+    let s = start l in
+    join-next _ _ (s .pre .0) (setOf (s .args .t1) (s .args .all .key)) (long s) _ (there s) refl _ _ (l .loop .inv) _ _ (a .lowest .ensures .itself) (bit-2 a)
+
+-- what is left are tables of the set
+under : (l : tie.At-loop Inv-loop μ-loop) → Under (l .loop .left) (start l .args .all .tables)
+under l u b = tables-of _ _ (start l .pre .2 .tables) _ (l .loop .inv .within u b)
+
+without-requires : tie.Need-without-requires Inv-loop μ-loop
+without-requires c κs = λ u b.
+    let l = c .before in
+    let s = start l in
+    omega (arith, tables-lt (setOf (s .args .t1) (s .args .all .key)) _ (s .pre .2 .tables) u (under l u b), long s, s .pre .0 .tables)
+
+returns : tie.Need-returns Inv-loop μ-loop
+returns c cells =
+    let l = c .before .before in
+    let s = start l in
+    rw (
+      ← s .pre .3,
+      ← join-end _ _ (s .pre .0) (setOf (s .args .t1) (s .args .all .key)) (long s) _ (there s) refl _ _ (l .loop .inv)
+          (c .before .loop-test .left) cells,
+    )
+    (c .without .ensures _ _ (s .pre .2) (under l))
 
 pub piece-of-spec : {M : Type 1} → statement M
 piece-of-spec =
@@ -97,16 +143,19 @@ piece-of-spec =
     (tie.spec
     Inv-loop
     μ-loop
-    with-row-requires
-    mul-attrs
-    element-copy-out-attrs
+    shl-left
+    sub-left
+    mul-reach
+    element-copy-out-reach
+    cast-reach
     loop-holds
-    returns
-    first-joining-requires
-    returns-2
-    row-of-requires
-    with-row-requires-2
-    mul-attrs-2
-    element-copy-out-attrs-2
+    lowest-requires
+    shl-left-2
+    sub-left-2
+    mul-reach-2
+    element-copy-out-reach-2
+    cast-reach-2
     loop-less
-    loop-again)
+    loop-again
+    without-requires
+    returns)

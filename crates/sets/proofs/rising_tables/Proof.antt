@@ -53,9 +53,9 @@ rises-requires c κs =
     let s = o .before .before .before in
     let b = o .loop-test .taken in
     let n = scheme-narrow (s .args .t1) _ (s .pre .0) _ b in
-    rw (s .pre .1 .wide _ b, s .pre .1 .begins _ b) (
+    rw (s .pre .1 .wide _ b, s .pre .0 .places _ b) (
       ones-le mergedLength _ n,
-      omega (arith, table-ends (s .args .t1) _ (s .pre .0) _ b, s .pre .0 .room, some-cell (schemeOf (s .args .t1) (o .before .loop .t)) (s .pre .0 .some-scheme _ b) n),
+      omega (arith, table-ends (s .args .t1) _ b, s .pre .0 .room, some-cell (schemeOf (s .args .t1) (o .before .loop .t)) (s .pre .0 .some-scheme _ b) n),
     )
 
 shl-rising : tie.Need-shl-rising Inv-loop μ-loop
@@ -78,7 +78,7 @@ loop-again c =
     (λ x.
     rw (x .1)
     (rising-more (s .args .t1) (s .args .cells .now) (l .loop .t) _ _ (l .loop .inv) (one-shl (l .loop .t) (omega (arith, b, s .pre .0 .tables)))
-    (rw (s .pre .1 .wide _ b, s .pre .1 .begins _ b) at (r .rises .ensures (x .0 .taken)))))
+    (rw (s .pre .1 .wide _ b, s .pre .0 .places _ b) at (r .rises .ensures (x .0 .taken)))))
     (λ x. rw (x .1) (l .loop .inv))
     (c .if1 .came)
 

@@ -1,6 +1,8 @@
 -- `loader::scanner::scan_tables` meets its contract. Invariant: the whole answer is the answer from table t on. Assumes nothing.
 use Rattle.loader.specs.Load.{tablesFrom}
-use Rattle.tables.specs.Sizes.{mostCells}
+use Rattle.tables.specs.Sizes.{mostTables, mostCells}
+use Rattle.tables.specs.Catalogues.{firstCell, given}
+use Rattle.tables.proofs.StoredLaws.{given-next}
 use Rattle.loader.proofs.LoadLaws.{good-table, good-clear, tables-over, tables-end, tables-bad, tables-more}
 use lib.ListN.{length, replicate, length-set}
 use Prim.Native.Nat.{_+_, _-_, _≤_}
@@ -14,13 +16,14 @@ use Rattle.loader.proofs.scanner.scan_tables.Tie as tie
 abbrev Inv-loop : tie.InvT-loop
 Inv-loop s room m n at schemes₀ rows₀ left₀ t₀ used₀ i₀ schemes rows left t used i =
     (tablesFrom n s room m n 0 0 (replicate 8 0) (replicate 8 0) at ≡ tablesFrom left s room m n t used schemes rows i)
-    × (t + left ≡ n) × (used ≤ mostCells) × (length schemes ≡ 8) × (length rows ≡ 8)
+    × (t + left ≡ n) × (used ≤ mostCells) × (length schemes ≡ mostTables) × (length rows ≡ mostTables) × (firstCell (given m n schemes rows) t ≡ used)
 
 abbrev μ-loop : tie.MeasureT-loop
 μ-loop s room m n at schemes₀ rows₀ left₀ t₀ used₀ i₀ schemes rows left t used i = left
 
 loop-holds : tie.Need-loop-holds Inv-loop μ-loop
-loop-holds c = (refl, omega arith, omega arith, refl, refl)
+unfolding firstCell
+loop-holds c = (refl, omega arith, omega arith, refl, refl, refl)
 
 table-at-requires : tie.Need-table-at-requires Inv-loop μ-loop
 table-at-requires c κs = search needs
@@ -61,6 +64,7 @@ loop-again c =
       rw (g .cells) (good-clear _ _ _ _ _ _ _ _ _ g .most),
       simp length-set (l .inv .3),
       simp length-set (l .inv .4),
+      given-next (a .m) (a .n) (l .schemes) (l .rows) (l .t) _ _ (omega arith) (omega arith) ∙ rw (l .inv .5) (sym (g .cells)),
     )
 
 enum-known-f : tie.Need-enum-known-f Inv-loop μ-loop
@@ -87,11 +91,21 @@ returns-2 c =
     let a = c .before .before .before .before .before .before .args in
     c .refuse2 .ensures ∙ rw (c .before .refusal-at .ensures) (sym (l .inv .0 ∙ tables-over (now (a .s)) (a .room) (a .m) (a .n) (l .t) (l .used) (l .schemes) (l .rows) (l .i) (l .left) (omega arith) (c .before .before .if1 .taken)))
 
+given-requires : tie.Need-given-requires Inv-loop μ-loop
+given-requires c κs = search needs
+
+filled-requires : tie.Need-filled-requires Inv-loop μ-loop
+filled-requires c κs =
+    let l = c .before .before .before .loop in
+    let a = c .before .before .before .before .before .args in
+    let e : l .t ≡ a .n = omega arith in
+    rw (c .given .ensures) (omega arith, omega (arith, l .inv .2, rw e at (l .inv .5)))
+
 returns-3 : tie.Need-returns-3 Inv-loop μ-loop
 returns-3 c =
-    let l = c .before .before .loop in
-    let a = c .before .before .before .before .args in
-    sym (l .inv .0 ∙ tables-end (now (a .s)) (a .room) (a .m) (a .n) (l .t) (l .used) (l .schemes) (l .rows) (l .i) (l .left) (omega arith) (c .if1 .left))
+    let l = c .before .before .before .before .loop in
+    let a = c .before .before .before .before .before .before .args in
+    rw (c .filled .ensures, c .before .given .ensures) (sym (l .inv .0 ∙ tables-end (now (a .s)) (a .room) (a .m) (a .n) (l .t) (l .used) (l .schemes) (l .rows) (l .i) (l .left) (omega arith) (c .before .before .if1 .left)))
 
 pub scan-tables-spec : {M : Type 1} → statement M
 scan-tables-spec =
@@ -116,4 +130,6 @@ scan-tables-spec =
     refusal-at-requires
     refuse-requires-2
     returns-2
+    given-requires
+    filled-requires
     returns-3)

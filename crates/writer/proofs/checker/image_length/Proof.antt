@@ -2,11 +2,11 @@
 use borrow.Author.Needs.{needs}
 use native.Mathlib.Omega.{arith}
 use Prim.Native.Nat.{_+_, _-_, _*_, _≤_}
-use mathlib.Core.Path.{_≡_, refl, ap}
+use mathlib.Core.Path.{_≡_, ap}
 use lib.ListN.{length}
 use Rattle.numbers.specs.Numbers.{mostBytes}
 use Rattle.tables.specs.Sizes.{mostTables, mostCells}
-use Rattle.tables.specs.Catalogues.{firstCell}
+use Rattle.tables.specs.Catalogues.{placeIn}
 use Rattle.writer.specs.Write.{tablesImage, imageOf}
 use Rattle.writer.proofs.AcceptLaws.{fault-accepted}
 use Rattle.writer.proofs.WriteLaws.{Table, table-good, head-length, image-none, image-few}
@@ -14,29 +14,31 @@ use Rattle.writer.proofs.checker.image_length.Statement.{statement}
 use Rattle.writer.proofs.checker.image_length.Tie as tie
 
 abbrev Inv-loop : tie.InvT-loop
-Inv-loop cells cat n sum₀ used₀ t₀ sum used t =
+Inv-loop cells cat n sum₀ t₀ sum t =
     (t ≤ n)
-    × (used ≡ firstCell cat t)
     × (sum + length (tablesImage (n - t) cat cells t) ≡ length (imageOf cat cells))
     × (n ≤ mostTables)
 
 abbrev μ-loop : tie.MeasureT-loop
-μ-loop cells cat n sum₀ used₀ t₀ sum used t = n - t
+μ-loop cells cat n sum₀ t₀ sum t = n - t
+
+-- The loop, from where the width of table t is known; and where the walk begins.
+abbrev walk : tie.After-width Inv-loop μ-loop → tie.In-loop Inv-loop μ-loop
+walk c = c .before .before .before .before
+
+abbrev start : tie.At-loop Inv-loop μ-loop → tie.Start Inv-loop μ-loop
+start l = l .before .before .before .before .before
 
 -- What the table at hand has,
 here : (c : tie.After-width Inv-loop μ-loop)
-    → (let a = c .before .before .before .before .before .before .before .before .before .args in
-    let l = c .before .before .before .before .loop in
-    Table (a .t1) (a .cells .now) (l .t) (l .used) (c .width .result))
-here c =
-    let l = c .before .before .before .before .loop in
-    table-good _ _ (c .before .before .before .before .before .before .before .before .before .pre) (l .t) (l .used) (c .width .result) (omega arith) (l .inv .1) (c .width .ensures)
+    → (let l = walk c .before in
+    Table (start l .args .t1) (start l .args .cells .now) (l .loop .t) (placeIn (start l .args .t1) (l .loop .t)) (c .width .result))
+here c = let l = walk c .before in table-good _ _ (start l .pre) (l .loop .t) (c .width .result) (walk c .loop-test .taken) (c .width .ensures)
 
 -- and the whole is short.
 short : (c : tie.After-width Inv-loop μ-loop)
-    → (let a = c .before .before .before .before .before .before .before .before .before .args in
-    length (imageOf (a .t1) (a .cells .now)) ≤ mostBytes * (3 + 2 * mostTables + mostCells))
-short c = image-few _ _ (c .before .before .before .before .before .before .before .before .before .pre)
+    → (let s = start (walk c .before) in length (imageOf (s .args .t1) (s .args .cells .now)) ≤ mostBytes * (3 + 2 * mostTables + mostCells))
+short c = image-few _ _ (start (walk c .before) .pre)
 
 size-requires : tie.Need-size-requires Inv-loop μ-loop
 size-requires c κs = search needs
@@ -58,11 +60,10 @@ add-sum-2 c =
     omega (arith, c .size3 .ensures, c .before .size2 .ensures, c .before .before .size .ensures, head-length (p .args .t1) (p .args .cells .now), image-few _ _ (p .pre))
 
 loop-holds : tie.Need-loop-holds Inv-loop μ-loop
-unfolding firstCell
 loop-holds c =
     let p = c .before .before .before .before in
     let e : p .args .t1 .n - 0 ≡ p .args .t1 .n = omega arith in
-    (omega arith, refl, rw e (omega (arith, c .size3 .ensures, c .before .size2 .ensures, c .before .before .size .ensures, head-length (p .args .t1) (p .args .cells .now))), fault-accepted _ _ (p .pre) .lawful .tables)
+    (omega arith, rw e (omega (arith, c .size3 .ensures, c .before .size2 .ensures, c .before .before .size .ensures, head-length (p .args .t1) (p .args .cells .now))), fault-accepted _ _ (p .pre) .lawful .tables)
 
 mul-scheme : tie.Need-mul-scheme Inv-loop μ-loop
 mul-scheme c = search needs
@@ -75,6 +76,15 @@ mul-rows c = search needs
 
 element-copy-out-rows : tie.Need-element-copy-out-rows Inv-loop μ-loop
 element-copy-out-rows c = search needs
+
+mul-from : tie.Need-mul-from Inv-loop μ-loop
+mul-from c = search needs
+
+element-copy-out-from : tie.Need-element-copy-out-from Inv-loop μ-loop
+element-copy-out-from c = search needs
+
+cast-from : tie.Need-cast-from Inv-loop μ-loop
+cast-from c = search needs
 
 cast-count : tie.Need-cast-count Inv-loop μ-loop
 cast-count c = search needs
@@ -89,7 +99,7 @@ size-requires-4 : tie.Need-size-requires-4 Inv-loop μ-loop
 size-requires-4 c κs = here c .scheme
 
 add-sum-3 : tie.Need-add-sum-3 Inv-loop μ-loop
-add-sum-3 c = omega (arith, c .size4 .ensures, here (c .before) .size, here (c .before) .three, c .before .before .before .before .before .loop .inv .2, short (c .before))
+add-sum-3 c = omega (arith, c .size4 .ensures, here (c .before) .size, here (c .before) .three, walk (c .before) .before .loop .inv .1, short (c .before))
 
 cast-size : tie.Need-cast-size Inv-loop μ-loop
 cast-size c = search needs
@@ -98,7 +108,7 @@ size-requires-5 : tie.Need-size-requires-5 Inv-loop μ-loop
 size-requires-5 c κs = omega (arith, here (c .before) .rows)
 
 add-sum-4 : tie.Need-add-sum-4 Inv-loop μ-loop
-add-sum-4 c = omega (arith, c .size5 .ensures, c .before .size4 .ensures, here (c .before .before) .size, here (c .before .before) .three, c .before .before .before .before .before .before .loop .inv .2, short (c .before .before))
+add-sum-4 c = omega (arith, c .size5 .ensures, c .before .size4 .ensures, here (c .before .before) .size, here (c .before .before) .three, walk (c .before .before) .before .loop .inv .1, short (c .before .before))
 
 run-size-requires : tie.Need-run-size-requires Inv-loop μ-loop
 run-size-requires c κs =
@@ -106,10 +116,7 @@ run-size-requires c κs =
     (g .inside, omega (arith, g .most), g .low)
 
 add-sum-5 : tie.Need-add-sum-5 Inv-loop μ-loop
-add-sum-5 c = omega (arith, c .run-size .ensures, c .before .size5 .ensures, c .before .before .size4 .ensures, here (c .before .before .before) .size, here (c .before .before .before) .three, c .before .before .before .before .before .before .before .loop .inv .2, short (c .before .before .before))
-
-add-used : tie.Need-add-used Inv-loop μ-loop
-add-used c = omega (arith, here (c .before .before .before) .most)
+add-sum-5 c = omega (arith, c .run-size .ensures, c .before .size5 .ensures, c .before .before .size4 .ensures, here (c .before .before .before) .size, here (c .before .before .before) .three, walk (c .before .before .before) .before .loop .inv .1, short (c .before .before .before))
 
 add-t : tie.Need-add-t Inv-loop μ-loop
 add-t c = search needs
@@ -119,14 +126,18 @@ loop-less c = search needs
 
 loop-again : tie.Need-loop-again Inv-loop μ-loop
 loop-again c =
-    let l = c .before .before .before .before .before .before .before .loop in
-    (omega arith, here (c .before .before .before) .next, omega (arith, c .run-size .ensures, c .before .size5 .ensures, c .before .before .size4 .ensures, here (c .before .before .before) .size, here (c .before .before .before) .three, l .inv .2), l .inv .3)
+    let w = c .before .before .before in
+    let l = walk w .before .loop in (
+      omega (arith, walk w .loop-test .taken),
+      omega (arith, c .run-size .ensures, c .before .size5 .ensures, c .before .before .size4 .ensures, here w .size, here w .three, l .inv .1),
+      l .inv .2,
+    )
 
 returns : tie.Need-returns Inv-loop μ-loop
 returns c =
     let l = c .before .loop in
     let p = c .before .before .before .before .before .before .args in
-    omega (arith, l .inv .2, ap length (image-none (p .t1) (p .cells .now) (p .t1 .n - l .t) (l .t) (omega arith)))
+    omega (arith, l .inv .1, ap length (image-none (p .t1) (p .cells .now) (p .t1 .n - l .t) (l .t) (omega arith)))
 
 pub image-length-spec : {M : Type 1} → statement M
 image-length-spec =
@@ -144,6 +155,9 @@ image-length-spec =
     element-copy-out-scheme
     mul-rows
     element-copy-out-rows
+    mul-from
+    element-copy-out-from
+    cast-from
     cast-count
     width-requires
     mul-count
@@ -154,7 +168,6 @@ image-length-spec =
     add-sum-4
     run-size-requires
     add-sum-5
-    add-used
     add-t
     loop-less
     loop-again
