@@ -154,10 +154,11 @@ fn merge_set(
 }
 
 // "A round tests rows in row order from the first. The first yes is added and a new round begins; a round without yes ends it."
-// A turn is for the first table that is live and touches the set: live is a table that is neither present nor walked without a fit. No row of another
-// table may be added: a row that touches the set and does not fit it never fits it later, since the set only grows. A table that is walked is live no more,
-// and where it gives a row the tables that touch it are in reach from then on. All tests are counted, those of the tables passed over too, by how many rows
-// lie before a table, and so the count is the rule's. `near` says which row of a table to look at first.
+// The walk of a round yields its row by break, and the rounds end by label when none fits. It comes only to tables that are live and touch the set: live is
+// a table that is neither present nor walked before. No row of another table may be added: a row that touches the set and does not fit it never fits it
+// later, since the set only grows. So a table is live no more once it is walked, in later rounds too; where it gives the row, the tables that touch it are
+// in reach from then on. All tests are counted, those of the tables passed over too, by how many rows lie before a table, and so the count is the rule's.
+// `near` says which row of a table to look at first.
 fn extended(cat: Catalogue, cells: &[u64], layout: Layout, from: RowSet, near: usize) -> Grown
     requires { ⌜ Lawful cat (length (now cells)) × LaidOut cat (now cells) layout × Named cat (from .key) × TablesOf (setOf cat (from .key)) (from .tables) ⌝ }
     ensures { λ e. ⌜ Comes cat (extension (worldOf cat (now (cells .entry))) (setOf cat (from .key))) (e .key) (e .tests) ⌝ }
@@ -169,22 +170,32 @@ fn extended(cat: Catalogue, cells: &[u64], layout: Layout, from: RowSet, near: u
     let mut key = from.key;
     let mut tests: usize = 0;
     let mut live: u64 = ((1 << cat.n) - 1) ^ from.tables;
-    while live & reach != 0 {
-        let t = words::lowest(live & reach);
-        let scheme = cat.schemes[t];
+    'rounds: loop {
+        let hit = loop {
+            if live & reach == 0 {
+                break 'rounds;
+            }
+            let t = words::lowest(live & reach);
+            let scheme = cat.schemes[t];
+            let w = layout.widths[t] as usize;
+            let base = cat.places[t] as usize;
+            let count = cat.rows[t] as usize;
+            let shared = scheme & attrs;
+            let rises = words::bit_of(layout.rising, t);
+            let i = walks::first_fit(cells, scheme, w, base, count, shared, rises, near, &merged);
+            live = live - (1 << t);
+            if i < count {
+                let row = i + 1;
+                break Row { table: t, row };
+            }
+        };
+        let t = hit.table;
         let w = layout.widths[t] as usize;
         let base = cat.places[t] as usize;
-        let count = cat.rows[t] as usize;
-        let shared = scheme & attrs;
-        let rises = words::bit_of(layout.rising, t);
-        let i = walks::first_fit(cells, scheme, w, base, count, shared, rises, near, &merged);
-        if i < count {
-            attrs = walks::merge_add(cells, scheme, w, base, i + 1, attrs, &mut merged);
-            reach = reach | cat.touching[t] as u64;
-            key = keys::with_row(key, t, (i + 1) as u64);
-            tests = tests + layout.before[t] as usize + i + 1;
-        }
-        live = live - (1 << t);
+        attrs = walks::merge_add(cells, cat.schemes[t], w, base, hit.row, attrs, &mut merged);
+        reach = reach | cat.touching[t] as u64;
+        key = keys::with_row(key, t, hit.row as u64);
+        tests = tests + layout.before[t] as usize + hit.row;
     }
     tests = tests + layout.total;
     Grown { key, tests }
