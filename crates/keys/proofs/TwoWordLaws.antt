@@ -13,7 +13,7 @@ use borrow.Author.Tests.{eq-eqb, ne-eqb, le-leb, lt-leb}
 use Rattle.words.specs.Words.{bitOf}
 use Rattle.words.proofs.WordLaws.{cut}
 use Rattle.keys.specs.Keys.{bitsPerRow, mostTables, rowOf, withRow}
-use Rattle.keys.specs.TwoWords.{bitsPerWord, bitsInLow, joined, firstWord, secondWord, numberIn, lowOf, highOf, numberOf, Before}
+use Rattle.keys.specs.TwoWords.{bitsPerWord, bitsInLow, joined, firstWord, secondWord, numberIn, lowOf, highOf, numberOf, keyWith, Before}
 use Rattle.keys.specs.declared.Key.{Key}
 use Rattle.keys.proofs.KeyLaws.{below, with-lt, cat-lt}
 
@@ -259,6 +259,10 @@ words-number x y h = (first-joined bitsInLow bitsPerWord x y h, second-joined bi
 -- and the number of a number's words is the number.
 pub number-words : (k : ℕ) → numberIn (lowOf k) (highOf k) ≡ k
 number-words k = joined-words bitsInLow bitsPerWord k
+
+-- A key that is made of a number has that number.
+pub number-key : (k : ℕ) → numberOf (keyWith k) ≡ k
+number-key k = number-words k
 
 -- The words of a set's key are its two parts, and have room in a machine word.
 pub key-words : (k : ℕ) → k < 2 ^ (bitsPerRow * mostTables) → (lowOf k ≡ k % 2 ^ bitsInLow) × (highOf k ≡ k / 2 ^ bitsInLow)

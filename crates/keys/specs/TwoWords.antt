@@ -50,6 +50,9 @@ highOf k = secondWord bitsInLow bitsPerWord k
 abbrev pub numberOf : Key → ℕ
 numberOf key = numberIn (key .low) (key .high)
 
+abbrev pub keyWith : ℕ → Key
+keyWith k = record { low = lowOf k; high = highOf k }
+
 -- "Where keys are put in order, the second word counts first."
 abbrev pub Before : Key → Key → Type 0
 Before a b = (a .high < b .high) ⊎ ((a .high ≡ b .high) × (a .low < b .low))

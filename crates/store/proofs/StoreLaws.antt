@@ -243,13 +243,18 @@ added-good w n q depth t k g p s looks e l =
     grown bitOf (w * n) (Key w n) (telling w n) (q .found) (keyAt q) (keyAt (added q k p s)) (linkAt q) (linkAt (added q k p s)) depth t k g p s looks e
     (added-cells q k p s (e .here) l)
 
--- A copy of a good store is good.
-pub copy-good : (w n : ℕ) (q r : Store) → Copy q r → GoodStore w n q → GoodStore w n r
-copy-good w n q r c (depth, t) = (
+-- A store with the keys and the links of a good one is good, ..
+pub alike-good : (w n : ℕ) (q r : Store) → r .found ≡ q .found → ((p : ℕ) → p < q .found → keyAt r p ≡ keyAt q p)
+    → ((s : Bool) (p : ℕ) → p < q .found → linkAt r s p ≡ linkAt q s p) → GoodStore w n q → GoodStore w n r
+alike-good w n q r e keys links (depth, t) = (
   depth,
-  subst (λ (x : ℕ). Tree bitOf (Key w n) x (keyAt r) (linkAt r) depth) (sym (c .found))
-      (moved bitOf (Key w n) (q .found) (keyAt q) (keyAt r) (linkAt q) (linkAt r) depth t (copy-key q r c) (copy-link q r c)),
+  subst (λ (x : ℕ). Tree bitOf (Key w n) x (keyAt r) (linkAt r) depth) (sym e)
+      (moved bitOf (Key w n) (q .found) (keyAt q) (keyAt r) (linkAt q) (linkAt r) depth t keys links),
 )
+
+-- .. and so is a copy of it.
+pub copy-good : (w n : ℕ) (q r : Store) → Copy q r → GoodStore w n q → GoodStore w n r
+copy-good w n q r c = alike-good w n q r (c .found) (copy-key q r c) (copy-link q r c)
 
 -- ---- one offer to a good store, by what the search says
 
