@@ -6,8 +6,9 @@ ghost use Prim.Native.Nat.{_<_, _≤_};
 ghost use lib.Count.{ones};
 ghost use Rattle.tables.specs.Sizes.{mostCells, mostTables};
 ghost use Rattle.tables.specs.Rows.{below};
+ghost use Rattle.tables.specs.Catalogues.{firstCell};
 ghost use Rattle.loader.specs.Reading.{refusalAt, runEnd, codes, rowsFrom};
-ghost use Rattle.loader.specs.Load.{refused, fieldAt, entryOf, countAt, tableAt, tablesFrom, scanOf};
+ghost use Rattle.loader.specs.Load.{refused, fieldAt, entryOf, countAt, tableAt, tablesEnd, tablesFrom, scanOf};
 use super::Entry;
 use super::Fault;
 use super::Field;
@@ -15,6 +16,7 @@ use super::Loaded;
 use super::Verdict;
 use super::Walk;
 use numbers::Reading;
+use tables::Catalogue;
 
 // The refusal k at a place, with the bytes looked at.
 pub fn refusal_at(k: usize, p: usize, looked: usize) -> Fault
@@ -114,14 +116,15 @@ fn rows_entry(s: &[u8], scheme: u64, rows: u16, used: usize, at: usize) -> Entry
     }
 }
 
-// A table behind its scheme: its row count, then its rows.
-fn count_at(s: &[u8], room: usize, scheme: u64, used: usize, at: usize) -> Entry
+// A table behind its scheme: its row count, which the image's version limits, then its rows.
+fn count_at(s: &[u8], v: u64, room: usize, scheme: u64, used: usize, at: usize) -> Entry
     requires { ⌜ used ≤ mostCells ⌝ }
-    ensures { λ r. ⌜ r ≡ countAt (now (s .entry)) room scheme used at ⌝ }
+    ensures { λ r. ⌜ r ≡ countAt (now (s .entry)) v room scheme used at ⌝ }
 {
     match numbers::read(s, at) {
         Reading::Number(rows, n) => {
-            let f = tables::count_fault(room, used, scheme, rows);
+            let most = tables::most_rows_in(v);
+            let f = tables::count_fault(most, room, used, scheme, rows);
             if f != 0 {
                 return Entry::TableFault(refusal_at(f, at, 0));
             }
@@ -134,16 +137,16 @@ fn count_at(s: &[u8], room: usize, scheme: u64, used: usize, at: usize) -> Entry
 
 // A table from a place on: its scheme, its row count, its rows.
 // Each number is judged as soon as it is read, so that the first fault is the one reported.
-fn table_at(s: &[u8], room: usize, m: usize, used: usize, at: usize) -> Entry
+fn table_at(s: &[u8], v: u64, room: usize, m: usize, used: usize, at: usize) -> Entry
     requires { ⌜ (m < 64) × (used ≤ mostCells) ⌝ }
-    ensures { λ r. ⌜ r ≡ tableAt (now (s .entry)) room m used at ⌝ }
+    ensures { λ r. ⌜ r ≡ tableAt (now (s .entry)) v room m used at ⌝ }
 {
     match numbers::read(s, at) {
         Reading::Number(scheme, n) => {
             if tables::scheme_bad(m, scheme) {
                 return Entry::TableFault(refusal_at(5, at, 0));
             }
-            count_at(s, room, scheme, used, n)
+            count_at(s, v, room, scheme, used, n)
         }
         Reading::NumberFault(k, looked) => Entry::TableFault(refusal_at(k, at, looked)),
     }
@@ -160,10 +163,28 @@ fn refuse(f: Fault) -> Loaded
     }
 }
 
+// What is said behind the last table: nothing may follow, and version 2 has to be needed.
+fn tables_end(s: &[u8], v: u64, cat: Catalogue, at: usize) -> Loaded
+    requires { ⌜ (cat .n ≤ mostTables) × (firstCell cat (cat .n) ≤ mostCells) ⌝ }
+    ensures { λ r. ⌜ r ≡ tablesEnd (now (s .entry)) v cat at ⌝ }
+{
+    if at < s.len() {
+        return refuse(refusal_at(9, at, 0));
+    }
+    if tables::needless(v, cat) {
+        return refuse(refusal_at(20, 0, 0));
+    }
+    let catalogue = tables::filled(cat);
+    Loaded {
+        verdict: Verdict::Good,
+        catalogue,
+    }
+}
+
 // The tables from a place on, one after the other, and nothing behind them.
-fn scan_tables(s: &[u8], room: usize, m: usize, n: usize, at: usize) -> Loaded
+fn scan_tables(s: &[u8], v: u64, room: usize, m: usize, n: usize, at: usize) -> Loaded
     requires { ⌜ (m < 64) × (n ≤ mostTables) ⌝ }
-    ensures { λ r. ⌜ r ≡ tablesFrom n (now (s .entry)) room m n 0 0 (replicate 8 0) (replicate 8 0) at ⌝ }
+    ensures { λ r. ⌜ r ≡ tablesFrom n (now (s .entry)) v room m n 0 0 (replicate 8 0) (replicate 8 0) at ⌝ }
 {
     let mut schemes = [0u64; 8];
     let mut rows = [0u16; 8];
@@ -172,7 +193,7 @@ fn scan_tables(s: &[u8], room: usize, m: usize, n: usize, at: usize) -> Loaded
     let mut used: usize = 0;
     let mut i = at;
     while 0 < left {
-        match table_at(s, room, m, used, i) {
+        match table_at(s, v, room, m, used, i) {
             Entry::Table(x, c, u, e) => {
                 schemes[t] = x;
                 rows[t] = c;
@@ -186,15 +207,7 @@ fn scan_tables(s: &[u8], room: usize, m: usize, n: usize, at: usize) -> Loaded
             }
         }
     }
-    if i < s.len() {
-        return refuse(refusal_at(9, i, 0));
-    }
-    let given = tables::given(m, n, schemes, rows);
-    let catalogue = tables::filled(given);
-    Loaded {
-        verdict: Verdict::Good,
-        catalogue,
-    }
+    tables_end(s, v, tables::given(m, n, schemes, rows), i)
 }
 
 // A number of the head that is to lie in a range, else the refusal k.
@@ -219,10 +232,10 @@ fn field_at(s: &[u8], at: usize, low: u64, high: u64, k: usize) -> Field
 pub fn scan(s: &[u8], room: usize) -> Loaded
     ensures { λ r. ⌜ r ≡ scanOf (now (s .entry)) room ⌝ }
 {
-    match field_at(s, 0, 1, 1, 3) {
-        Field::Value(_, i) => match field_at(s, i, 1, 63, 4) {
+    match field_at(s, 0, 1, 2, 3) {
+        Field::Value(v, i) => match field_at(s, i, 1, 63, 4) {
             Field::Value(m, j) => match field_at(s, j, 1, 8, 4) {
-                Field::Value(n, k) => scan_tables(s, room, m as usize, n as usize, k),
+                Field::Value(n, k) => scan_tables(s, v, room, m as usize, n as usize, k),
                 Field::FieldFault(f) => refuse(f),
             },
             Field::FieldFault(f) => refuse(f),

@@ -4,7 +4,7 @@ use native.Mathlib.Decide.{decLt}
 use native.Mathlib.Omega.{arith}
 use mathlib.Core.Path.{_≡_, refl, sym, _∙_}
 use mathlib.Core.Logic.{_⊎_, inl, inr, ⊎-elim}
-use mathlib.Core.Bool.{Bool, true, false, cond}
+use mathlib.Core.Bool.{Bool, true, false, not, cond}
 use lib.Dec.{eqb}
 use borrow.Author.Tests.{lt-ltb, le-ltb, ltb-true, eq-eqb, ne-eqb}
 use Rattle.laws.proofs.TestLaws.{clash, which, any-some, any-of, any-none}
@@ -71,6 +71,19 @@ module _ (cat : Catalogue) where
       (λ (e : someLong cat ≡ true). rw (version-two e, most-two versionTwo (λ z. absurd (omega arith))) (few t l))
       (λ (e : someLong cat ≡ false). rw (version-one e, most-one versionOne refl) (none-long e t l))
       (which (someLong cat))
+
+  -- Version 2 is needless where the tables carry version 1, and no other version is.
+  pub needless-other : (v : ℕ) → (v ≡ versionTwo → ⊥) → needless v cat ≡ false
+  unfolding needless
+  needless-other v h = rw (ne-eqb v versionTwo h)
+
+  pub needless-two : (v : ℕ) → v ≡ versionTwo → needless v cat ≡ eqb (versionOf cat) versionOne
+  unfolding needless versionOf
+  needless-two v e = rw (eq-eqb v versionTwo e) (by (someLong cat))
+    where
+      by : (b : Bool) → not b ≡ eqb (cond b versionTwo versionOne) versionOne
+      by true = refl
+      by false = refl
 
   -- Their version is not a needless one,
   pub version-needed : needless (versionOf cat) cat ≡ false

@@ -8,7 +8,7 @@ ghost use lib.Dec.{eqb};
 ghost use Rattle.tables.specs.Sizes.{mostTables, mostRows, mostCells};
 ghost use Rattle.tables.specs.Catalogues.{countOf, schemeOf, firstCell, touch, touchingOf, filled, given, noTables, rowStart, total, rowAt};
 ghost use Rattle.tables.specs.Checks.{sizeFault, badScheme, countFault, tableFault, shapeFault, misstored, storedFault, catalogueFault, Lawful, Makes};
-ghost use Rattle.tables.specs.Versions.{versionOf, mostRowsIn};
+ghost use Rattle.tables.specs.Versions.{versionOf, mostRowsIn, needless};
 
 // The most rows of a table in version 1.
 const MOST_ROWS_ONE: u64 = 255;
@@ -314,6 +314,17 @@ pub fn most_rows_in(version: u64) -> u64
         return MOST_ROWS_ONE;
     }
     MOST_ROWS
+}
+
+// Whether an image of these tables carries version 2 without need (20): no table passes 255 rows.
+pub fn needless(version: u64, cat: Catalogue) -> bool
+    requires { ⌜ cat .n ≤ mostTables ⌝ }
+    ensures { λ r. ⌜ r ≡ needless version cat ⌝ }
+{
+    if version != 2 {
+        return false;
+    }
+    version_of(cat) == 1
 }
 
 // N: how many rows all tables have together.
