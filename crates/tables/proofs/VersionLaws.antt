@@ -64,6 +64,13 @@ module _ (cat : Catalogue) where
   unfolding versionOf
   version-one e = rw e
 
+  pub version-few : versionOf cat ≤ versionTwo
+  version-few =
+      ⊎-elim
+      (λ (e : someLong cat ≡ true). rw (version-two e) (omega arith))
+      (λ (e : someLong cat ≡ false). rw (version-one e) (omega arith))
+      (which (someLong cat))
+
   -- Each table has as many rows as its version allows.
   pub version-allows : ((t : ℕ) → t < cat .n → countOf cat t ≤ mostRows) → (t : ℕ) → t < cat .n → countOf cat t ≤ mostRowsIn (versionOf cat)
   version-allows few t l =

@@ -16,12 +16,13 @@ use Rattle.laws.proofs.ListLaws.{part-none, part-more, part-append}
 use Rattle.laws.proofs.TestLaws.{which, clash}
 use Rattle.numbers.specs.Numbers.{mostBytes, encodeIn, encode}
 use Rattle.tables.specs.declared.Catalogue.{Catalogue}
-use Rattle.tables.specs.Sizes.{mostTables, mostRows, mostCells, version}
+use Rattle.tables.specs.Sizes.{mostTables, mostRows, mostCells}
 use Rattle.tables.specs.Catalogues.{schemeOf, countOf, firstCell, placeIn}
 use Rattle.tables.specs.Rows.{below}
+use Rattle.tables.specs.Versions.{versionOf}
 use Rattle.tables.proofs.CatalogueLaws.{cells-next, table-ends}
 use Rattle.writer.specs.declared.Written.the-variants.{Length, Refused}
-use Rattle.writer.specs.Write.{encodes, cellsOf, tablesImage, imageOf, tooHigh, rowsFault, writeFault, lengthFault, written}
+use Rattle.writer.specs.Write.{encodes, cellsOf, tablesImage, headBytes, imageOf, tooHigh, rowsFault, writeFault, lengthFault, written}
 use Rattle.writer.proofs.AcceptLaws.{fault-accepted}
 
 -- ---- 10
@@ -147,18 +148,19 @@ tableBytes cat cells t used w = encode (schemeOf cat t) ++ (encode (countOf cat 
 abbrev pub tableLength : Catalogue → List ℕ → ℕ → ℕ → ℕ → ℕ
 tableLength cat cells t used w = length (encode (schemeOf cat t)) + length (encode (countOf cat t)) + length (encodes (part used (countOf cat t * w) cells))
 
--- The bytes before the first table, and how many they are.
-abbrev pub headBytes : Catalogue → List ℕ
-headBytes cat = encode version ++ (encode (cat .m) ++ encode (cat .n))
-
+-- How many bytes lie before the first table.
 abbrev pub headLength : Catalogue → ℕ
-headLength cat = length (encode version) + length (encode (cat .m)) + length (encode (cat .n))
+headLength cat = length (encode (versionOf cat)) + length (encode (cat .m)) + length (encode (cat .n))
 
 length-three : (a b c : List ℕ) → length (a ++ (b ++ c)) ≡ length a + length b + length c
 length-three a b c = simp length-append (omega arith)
 
 pub head-three : (cat : Catalogue) → length (headBytes cat) ≡ headLength cat
-head-three cat = length-three (encode version) (encode (cat .m)) (encode (cat .n))
+head-three cat = length-three (encode (versionOf cat)) (encode (cat .m)) (encode (cat .n))
+
+-- A head is short.
+pub head-few : (cat : Catalogue) → length (headBytes cat) ≤ mostBytes * 3
+head-few cat = omega (arith, head-three cat, encode-few (versionOf cat), encode-few (cat .m), encode-few (cat .n))
 
 module _ (cat : Catalogue) (cells : List ℕ) where
   pub image-none : (k t : ℕ) → k ≤ 0 → tablesImage k cat cells t ≡ []
@@ -178,13 +180,10 @@ module _ (cat : Catalogue) (cells : List ℕ) where
 
   pub image-head : imageOf cat cells ≡ headBytes cat ++ tablesImage (cat .n) cat cells 0
   unfolding imageOf
-  image-head = simp append-assoc
+  image-head = refl
 
-  pub head-length : length (imageOf cat cells) ≡ headLength cat + length (tablesImage (cat .n) cat cells 0)
-  head-length =
-      ap length image-head
-      ∙ length-append (headBytes cat) (tablesImage (cat .n) cat cells 0)
-      ∙ omega (arith, head-three cat)
+  pub head-length : length (imageOf cat cells) ≡ length (headBytes cat) + length (tablesImage (cat .n) cat cells 0)
+  head-length = ap length image-head ∙ length-append (headBytes cat) (tablesImage (cat .n) cat cells 0)
 
   -- A number takes at most nine bytes, a table two numbers beside its cells.
   tables-few : (k t : ℕ) → length (tablesImage k cat cells t) + mostBytes * firstCell cat t ≤ mostBytes * (2 * k + firstCell cat (t + k))
@@ -230,7 +229,7 @@ module _ (cat : Catalogue) (cells : List ℕ) where
   image-few e =
       let L = fault-accepted cat cells e .lawful in
       let z : 0 + cat .n ≡ cat .n = omega arith in
-      omega (arith, head-length, encode-few version, encode-few (cat .m), encode-few (cat .n), rw z at (tables-few (cat .n) 0), L .cells, L .tables)
+      omega (arith, head-length, head-few cat, rw z at (tables-few (cat .n) 0), L .cells, L .tables)
 
 -- ---- the answer
 

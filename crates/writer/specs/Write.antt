@@ -14,7 +14,7 @@ use Rattle.tables.specs.declared.Catalogue.{Catalogue}
 use Rattle.tables.specs.Catalogues.{schemeOf, countOf, firstCell}
 use Rattle.tables.specs.Rows.{below}
 use Rattle.tables.specs.Checks.{firstOf, catalogueFault, Lawful}
-use Rattle.tables.specs.Sizes.{version}
+use Rattle.tables.specs.Versions.{versionOf}
 use Rattle.writer.specs.declared.Written.{Written}
 use Rattle.writer.specs.declared.Written.the-variants.{Length, Refused}
 
@@ -33,9 +33,13 @@ tablesImage zero cat cells t = []
 tablesImage (suc k) cat cells t =
     encode (schemeOf cat t) ++ (encode (countOf cat t) ++ (encodes (cellsOf cat cells t) ++ tablesImage k cat cells (t + 1)))
 
+-- The image's head: "version (1), m, n". "Images with a table above 255 rows carry version 2, all others version 1" (#110).
+abbrev pub headBytes : Catalogue → List ℕ
+headBytes cat = encode (versionOf cat) ++ (encode (cat .m) ++ encode (cat .n))
+
 -- "In order: version (1), m, n; then for each table .. Nothing follows."
 unfoldable pub imageOf : Catalogue → List ℕ → List ℕ
-imageOf cat cells = encode version ++ (encode (cat .m) ++ (encode (cat .n) ++ tablesImage (cat .n) cat cells 0))
+imageOf cat cells = headBytes cat ++ tablesImage (cat .n) cat cells 0
 
 -- "10: a cell code of 2^63 or more"
 unfoldable pub tooHigh : List ℕ → Bool

@@ -4,9 +4,9 @@ ghost use mathlib.Core.Bool.{true, false};
 ghost use Prim.Native.Nat.{_+_, _*_, _≤_};
 ghost use lib.ListN.{length};
 ghost use Rattle.laws.specs.Lists.{part};
-ghost use Rattle.tables.specs.Sizes.{mostCells};
+ghost use Rattle.tables.specs.Sizes.{mostAttributes, mostTables, mostCells};
 ghost use Rattle.tables.specs.Rows.{below};
-ghost use Rattle.writer.specs.Write.{encodes, imageOf, tooHigh, rowsFault, writeFault};
+ghost use Rattle.writer.specs.Write.{encodes, headBytes, imageOf, tooHigh, rowsFault, writeFault};
 use tables::Catalogue;
 
 // Whether a code of the row that begins at a cell is 2^63 or more.
@@ -114,13 +114,22 @@ fn run_size(cells: &[u64], from: usize, count: usize) -> usize
     sum
 }
 
+// How many bytes the image's head takes.
+fn head_size(cat: Catalogue) -> usize
+    requires { ⌜ (cat .m ≤ mostAttributes) × (cat .n ≤ mostTables) ⌝ }
+    ensures { λ r. ⌜ r ≡ length (headBytes cat) ⌝ }
+{
+    let version = tables::version_of(cat);
+    numbers::size(version) + numbers::size(cat.m as u64) + numbers::size(cat.n as u64)
+}
+
 // The length of the image of tables that meet no refusal.
 pub fn image_length(cat: Catalogue, cells: &[u64]) -> usize
     requires { ⌜ writeFault cat (now cells) ≡ 0 ⌝ }
     ensures { λ r. ⌜ r ≡ length (imageOf cat (now (cells .entry))) ⌝ }
 {
     let n = cat.n;
-    let mut sum: usize = numbers::size(1) + numbers::size(cat.m as u64) + numbers::size(n as u64);
+    let mut sum: usize = head_size(cat);
     let mut t: usize = 0;
     while t < n {
         let scheme = cat.schemes[t];
