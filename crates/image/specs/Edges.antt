@@ -33,3 +33,18 @@ pub record ImageEdges : Type 0 where
   pub high-scheme : scanOf (0x01 ∷ 0x01 ∷ 0x01 ∷ 0x02 ∷ []) mostCells .verdict ≡ Refused (refusalAt 5 3 0)
   pub equal-rows : scanOf (0x01 ∷ 0x01 ∷ 0x01 ∷ 0x01 ∷ 0x02 ∷ 0x05 ∷ 0x05 ∷ []) mostCells .verdict ≡ Refused (refusalAt 7 6 0)
   pub surplus : scanOf (0x01 ∷ 0x01 ∷ 0x01 ∷ 0x01 ∷ 0x00 ∷ 0x00 ∷ []) mostCells .verdict ≡ Refused (refusalAt 9 5 0)
+
+-- Request #110: "3 now means neither 1 nor 2; 6 means above 255 in version 1, above 4,095 in version 2 ..; 20, a version 2 image in which no table passes
+-- 255, after all else with place 0." So `02` alone is now 1 at 1, and `03` is 3 at 0.
+pub record VersionEdges : Type 0 where
+  pub two-alone : scanOf (0x02 ∷ []) mostCells .verdict ≡ Refused (refusalAt 1 1 0)
+  pub three-alone : scanOf (0x03 ∷ []) mostCells .verdict ≡ Refused (refusalAt 3 0 0)
+  -- 256 rows are refused in version 1, and their first cell is due in version 2;
+  pub one-many : scanOf (0x01 ∷ 0x01 ∷ 0x01 ∷ 0x01 ∷ 0x80 ∷ 0x02 ∷ []) mostCells .verdict ≡ Refused (refusalAt 6 4 0)
+  pub two-some : scanOf (0x02 ∷ 0x01 ∷ 0x01 ∷ 0x01 ∷ 0x80 ∷ 0x02 ∷ []) mostCells .verdict ≡ Refused (refusalAt 1 6 0)
+  -- so of 4,095 rows, while 4,096 are refused there too.
+  pub two-most : scanOf (0x02 ∷ 0x01 ∷ 0x01 ∷ 0x01 ∷ 0xFF ∷ 0x1F ∷ []) mostCells .verdict ≡ Refused (refusalAt 1 6 0)
+  pub two-many : scanOf (0x02 ∷ 0x01 ∷ 0x01 ∷ 0x01 ∷ 0x80 ∷ 0x20 ∷ []) mostCells .verdict ≡ Refused (refusalAt 6 4 0)
+  -- 9 comes before 20.
+  pub surplus-first : scanOf (0x02 ∷ 0x01 ∷ 0x01 ∷ 0x01 ∷ 0x00 ∷ 0x00 ∷ []) mostCells .verdict ≡ Refused (refusalAt 9 5 0)
+  pub no-need : scanOf (0x02 ∷ 0x01 ∷ 0x01 ∷ 0x01 ∷ 0x00 ∷ []) mostCells .verdict ≡ Refused (refusalAt 20 0 0)

@@ -64,6 +64,13 @@ module _ (cat : Catalogue) where
   unfolding versionOf
   version-one e = rw e
 
+  pub version-some : versionOne ≤ versionOf cat
+  version-some =
+      ⊎-elim
+      (λ (e : someLong cat ≡ true). rw (version-two e) (omega arith))
+      (λ (e : someLong cat ≡ false). rw (version-one e) (omega arith))
+      (which (someLong cat))
+
   pub version-few : versionOf cat ≤ versionTwo
   version-few =
       ⊎-elim
@@ -111,3 +118,21 @@ module _ (cat : Catalogue) where
       by : (b : Bool) → someLong cat ≡ b → v ≡ versionOf cat
       by true h = e ∙ sym (version-two h)
       by false h = absurd (clash (rw (eq-eqb v versionTwo e, h) refl) n)
+
+-- ---- catalogues with the same row counts below n carry the same version
+
+module _ (cat cat′ : Catalogue) (n : cat′ .n ≡ cat .n) (same : (t : ℕ) → t < cat .n → countOf cat′ t ≡ countOf cat t) where
+  pub long-same : someLong cat′ ≡ someLong cat
+  long-same = by (someLong cat) refl
+    where
+      by : (b : Bool) → someLong cat ≡ b → someLong cat′ ≡ b
+      by true e = let (t, l, h) = some-long cat e in long-some cat′ t (rw n l) (rw (same t l) h)
+      by false e = long-none cat′ (λ t l. let m = rw n at l in rw (same t m) (none-long cat e t m))
+
+  pub version-same : versionOf cat′ ≡ versionOf cat
+  unfolding versionOf
+  version-same = rw long-same refl
+
+  pub needless-same : (v : ℕ) → needless v cat′ ≡ needless v cat
+  unfolding needless
+  needless-same v = rw long-same refl
