@@ -275,21 +275,22 @@ module _ (cat : Catalogue) (lent : ℕ) where
 
   pub clear-shape : Shaped cat lent → shapeFault cat lent ≡ 0
   clear-shape S =
-      shape-split .1
-      (size-good (cat .m) (cat .n)
-      (inside 1 mostAttributes (cat .m) (S .sizes .m-low) (S .sizes .m-high))
-      (inside 1 mostTables (cat .n) (S .sizes .n-low) (S .sizes .n-high)),
-      clear-tables (cat .n) 0
-      (λ t l h.
-      let n : t < cat .n = omega arith in
-      clear-fault (cat .m) lent (firstCell cat t) (schemeOf cat t) (countOf cat t)
-      (record {
-        some = S .some-scheme t n;
-        low = S .scheme t n;
-        few = S .rows t n;
-        most = omega (arith, table-ends cat t n, S .cells);
-        room = omega (arith, table-ends cat t n, S .room);
-      })))
+      shape-split .1 (
+        size-good (cat .m) (cat .n)
+            (inside 1 mostAttributes (cat .m) (S .sizes .m-low) (S .sizes .m-high))
+            (inside 1 mostTables (cat .n) (S .sizes .n-low) (S .sizes .n-high)),
+        clear-tables (cat .n) 0
+            (λ t l h.
+            let n : t < cat .n = omega arith in
+            clear-fault (cat .m) lent (firstCell cat t) (schemeOf cat t) (countOf cat t)
+            (record {
+              some = S .some-scheme t n;
+              low = S .scheme t n;
+              few = S .rows t n;
+              most = omega (arith, table-ends cat t n, S .cells);
+              room = omega (arith, table-ends cat t n, S .room);
+            })),
+      )
 
 -- ---- 16
 
