@@ -95,8 +95,10 @@ pub data Passes (s : List ℕ) (room : ℕ) : Due → ℕ → Due → ℕ → Ty
   count-is : {i j v m k u x c : ℕ} {l : Bool} → decode s i ≡ Number c j → c ≤ mostRowsIn v → u + c * ones x ≤ mostCells → u + c * ones x ≤ room
       → Passes s room (rowCount v m k u l x) i (rows v m k (u + c * ones x) (longer c l) x c none) j
   row-begins : {i v m k u x c : ℕ} {l : Bool} {b : Before} → Passes s room (rows v m k u l x (suc c) b) i (cells v m k u l x c b i (ones x)) i
-  cell-is : {i j v m k u x c d p w : ℕ} {l : Bool} {b : Before} → decode s i ≡ Number d j → Passes s room (cells v m k u l x c b p (suc w)) i (cells v m k u l x c b p w) j
-  row-rises : {i v m k u x c p : ℕ} {l : Bool} {b : Before} → Rises s (ones x) b p → Passes s room (cells v m k u l x c b p 0) i (rows v m k u l x c (rowAt p)) i
+  cell-is : {i j v m k u x c d p w : ℕ} {l : Bool} {b : Before} → decode s i ≡ Number d j
+      → Passes s room (cells v m k u l x c b p (suc w)) i (cells v m k u l x c b p w) j
+  row-rises : {i v m k u x c p : ℕ} {l : Bool} {b : Before} → Rises s (ones x) b p
+      → Passes s room (cells v m k u l x c b p 0) i (rows v m k u l x c (rowAt p)) i
   rows-end : {i v m k u x : ℕ} {l : Bool} {b : Before} → Passes s room (rows v m k u l x 0 b) i (table v m k u l) i
 
 -- What is due at place i is at fault: the refusal, and its place. "The place is the first byte of the number at fault, for 7 of the row, for 9 of the surplus."
@@ -117,7 +119,8 @@ pub data Meets (s : List ℕ) (room : ℕ) : Due → ℕ → Fault → Type 0 wh
   many-cells : {i j v m k u x c : ℕ} {l : Bool} → decode s i ≡ Number c j → c ≤ mostRowsIn v → (mostCells < u + c * ones x) ⊎ (room < u + c * ones x)
       → Meets s room (rowCount v m k u l x) i (refusalAt 8 i 0)
   -- "7: a row doesn't rise above the one before", "after the row's last cell"
-  not-rising : {i v m k u x c p q : ℕ} {l : Bool} → below (codes (ones x) s q) (codes (ones x) s p) ≡ false → Meets s room (cells v m k u l x c (rowAt q) p 0) i (refusalAt 7 p 0)
+  not-rising : {i v m k u x c p q : ℕ} {l : Bool} → below (codes (ones x) s q) (codes (ones x) s p) ≡ false
+      → Meets s room (cells v m k u l x c (rowAt q) p 0) i (refusalAt 7 p 0)
   -- "9: bytes after the last table"
   surplus : {i v m u : ℕ} {l : Bool} → i < length s → Meets s room (table v m 0 u l) i (refusalAt 9 i 0)
   -- "20, a version 2 image in which no table passes 255, after all else with place 0" (#110)

@@ -1,8 +1,10 @@
 -- `writer::putter::put_head` meets its contract: the head is three numbers. Assumes nothing.
 use borrow.Author.Needs.{needs}
 use native.Mathlib.Omega.{arith}
-use Prim.Native.Nat.{ℕ, _+_, _^_, _≤_, _<_}
-use mathlib.Core.Path.{_≡_, _∙_}
+use Prim.Native.Nat.{ℕ}
+use mathlib.Core.Path.{ap}
+use lib.ListN.{length}
+use Rattle.numbers.specs.Numbers.{encode}
 use Rattle.tables.proofs.VersionLaws.{version-few}
 use Rattle.writer.proofs.WriteLaws.{head-three}
 use Rattle.writer.proofs.putter.put_head.Statement.{statement}
@@ -14,8 +16,12 @@ version-of-requires c κs = search needs
 put-three-requires : tie.Need-put-three-requires
 put-three-requires c κs =
     let s = c .before .before .before in
-    rw (c .before .version-of .ensures)
-    (omega (arith, version-few (s .args .cat)), omega (arith, s .pre .0), omega (arith, s .pre .1), omega (arith, head-three (s .args .cat), s .pre .2))
+    let e = c .before .version-of .ensures in (
+      omega (arith, e, version-few (s .args .cat)),
+      omega (arith, s .pre .0),
+      omega (arith, s .pre .1),
+      omega (arith, ap (λ (v : ℕ). length (encode v)) e, head-three (s .args .cat), s .pre .2),
+    )
 
 same-length : tie.Need-same-length
 same-length c = search needs
