@@ -47,7 +47,7 @@ module _ (s : List ℕ) (v room x used i : ℕ) where
   module _ (c n : ℕ) (e : decode s i ≡ Number c n) where
     -- What the row count's rows come to.
     abbrev pub rowsEntry : Entry
-    rowsEntry = entryOf x c (used + c * ones x) (rowsFrom c (ones x) s true 0 n)
+    rowsEntry = entryOf x c (used + c * ones x) (rowsFrom c (ones x) s v true 0 n)
 
     pub count-fault : (countFault (mostRowsIn v) room used x c ≡ 0 → ⊥) → countAt s v room x used i ≡ TableFault (refusalAt (countFault (mostRowsIn v) room used x c) i 0)
     unfolding countAt
@@ -83,11 +83,11 @@ pub record GoodTable (s : List ℕ) (v room m used i x c u e : ℕ) : Type 0 whe
   pub count : decode s n ≡ Number c q
   pub fits : countFault (mostRowsIn v) room used x c ≡ 0
   pub cells : u ≡ used + c * ones x
-  pub rows : rowsFrom c (ones x) s true 0 q ≡ To e
+  pub rows : rowsFrom c (ones x) s v true 0 q ≡ To e
 
 module _ (s : List ℕ) (v room m used i x c u e : ℕ) (a : tableAt s v room m used i ≡ Table x c u e) where
   good-rows : (y d n q : ℕ) → decode s i ≡ Number y n → badScheme m y ≡ false → decode s n ≡ Number d q → countFault (mostRowsIn v) room used y d ≡ 0
-      → (r : Walk) → rowsFrom d (ones y) s true 0 q ≡ r → entryOf y d (used + d * ones y) r ≡ Table x c u e → GoodTable s v room m used i x c u e
+      → (r : Walk) → rowsFrom d (ones y) s v true 0 q ≡ r → entryOf y d (used + d * ones y) r ≡ Table x c u e → GoodTable s v room m used i x c u e
   good-rows y d n q p b z f (WalkFault w) r g = no-table (TableFault w) w x c u e refl g
   good-rows y d n q p b z f (To w) r g =
       let ex : y ≡ x = cc in
@@ -111,7 +111,7 @@ module _ (s : List ℕ) (v room m used i x c u e : ℕ) (a : tableAt s v room m 
   good-count y n p b g (Number r q) d =
       elim (ℕ-discrete (countFault (mostRowsIn v) room used y r) 0) [
         | no h ↦ no-table _ (refusalAt (countFault (mostRowsIn v) room used y r) n 0) x c u e (count-fault s v room y used n r q d h) g
-        | yes h ↦ good-rows y r n q p b d h (rowsFrom r (ones y) s true 0 q) refl (sym (count-rows s v room y used n r q d h) ∙ g)
+        | yes h ↦ good-rows y r n q p b d h (rowsFrom r (ones y) s v true 0 q) refl (sym (count-rows s v room y used n r q d h) ∙ g)
       ]
 
   good-scheme : (d : Reading) → decode s i ≡ d → GoodTable s v room m used i x c u e

@@ -18,7 +18,7 @@ use Rattle.tables.specs.Sizes.{mostAttributes, mostTables, mostCells, versionOn
 use Rattle.tables.specs.Rows.{below}
 use Rattle.tables.specs.Checks.{outside, badScheme, countFault}
 use Rattle.tables.specs.declared.Catalogue.{Catalogue}
-use Rattle.tables.specs.Versions.{mostRowsIn, needless}
+use Rattle.tables.specs.Versions.{mostRowsIn, needless, blank}
 use Rattle.tables.proofs.CheckLaws.{fault-counted}
 use Rattle.loader.specs.declared.Walk.{Walk}
 use Rattle.loader.specs.declared.Walk.the-variants.{To, WalkFault}
@@ -54,16 +54,18 @@ unfolding runEnd
 run-near zero s i = omega arith
 run-near (suc w) s i = run-near-step w s i (decode s i) (decode-near s i) (λ n. run-near w s n)
 
-rows-near-step : (k w : ℕ) (s : List ℕ) (i : ℕ) (d : Walk) (t : Bool) → NearWalk (i + 9 * w) d → ((n : ℕ) → NearWalk (n + 9 * (k * w)) (rowsFrom k w s false i n))
-    → NearWalk (i + 9 * (suc k * w)) (onWalk d (λ n. cond t (rowsFrom k w s false i n) (WalkFault (refusalAt 7 i 0))))
-rows-near-step k w s i (To n) true h ih = walk-near (n + 9 * (k * w)) (i + 9 * (suc k * w)) (rowsFrom k w s false i n) (omega (arith, suc-mul k w)) (ih n)
-rows-near-step k w s i (To n) false h ih = omega arith
-rows-near-step k w s i (WalkFault f) t h ih = omega (arith, suc-mul k w)
+rows-near-step : (k w : ℕ) (s : List ℕ) (v i : ℕ) (d : Walk) (a t : Bool) → NearWalk (i + 9 * w) d → ((n : ℕ) → NearWalk (n + 9 * (k * w)) (rowsFrom k w s v false i n))
+    → NearWalk (i + 9 * (suc k * w)) (onWalk d (λ n. cond a (WalkFault (refusalAt 21 i 0)) (cond t (rowsFrom k w s v false i n) (WalkFault (refusalAt 7 i 0)))))
+rows-near-step k w s v i (To n) true t h ih = omega arith
+rows-near-step k w s v i (To n) false true h ih = walk-near (n + 9 * (k * w)) (i + 9 * (suc k * w)) (rowsFrom k w s v false i n) (omega (arith, suc-mul k w)) (ih n)
+rows-near-step k w s v i (To n) false false h ih = omega arith
+rows-near-step k w s v i (WalkFault f) a t h ih = omega (arith, suc-mul k w)
 
-rows-near : (k w : ℕ) (s : List ℕ) (b : Bool) (p i : ℕ) → NearWalk (i + 9 * (k * w)) (rowsFrom k w s b p i)
+rows-near : (k w : ℕ) (s : List ℕ) (v : ℕ) (b : Bool) (p i : ℕ) → NearWalk (i + 9 * (k * w)) (rowsFrom k w s v b p i)
 unfolding rowsFrom
-rows-near zero w s b p i = omega arith
-rows-near (suc k) w s b p i = rows-near-step k w s i (runEnd w s i) (b || below (codes w s p) (codes w s i)) (run-near w s i) (λ n. rows-near k w s false i n)
+rows-near zero w s v b p i = omega arith
+rows-near (suc k) w s v b p i =
+    rows-near-step k w s v i (runEnd w s i) (blank v (codes w s i)) (b || below (codes w s p) (codes w s i)) (run-near w s i) (λ n. rows-near k w s v false i n)
 
 -- ---- a table: two numbers and at most 8,192 cells
 
@@ -96,8 +98,8 @@ count-near s v room x used i = pick (decode s i) refl (decode-near s i)
           | no y ↦ rw (count-fault s v room x used i c n d y) (omega (arith, count-few (mostRowsIn v) room used x c))
           | yes y ↦
               rw (count-rows s v room x used i c n d y)
-              (entry-near x c (used + c * ones x) (n + 9 * (c * ones x)) (i + 9 + 9 * mostCells) (rowsFrom c (ones x) s true 0 n)
-              (omega (arith, fault-counted (mostRowsIn v) room used x c y .most)) (rows-near c (ones x) s true 0 n))
+              (entry-near x c (used + c * ones x) (n + 9 * (c * ones x)) (i + 9 + 9 * mostCells) (rowsFrom c (ones x) s v true 0 n)
+              (omega (arith, fault-counted (mostRowsIn v) room used x c y .most)) (rows-near c (ones x) s v true 0 n))
         ]
 
 table-near : (s : List ℕ) (v room m used i : ℕ) → NearEntry (i + 18 + 9 * mostCells) (tableAt s v room m used i)

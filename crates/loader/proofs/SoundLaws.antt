@@ -93,7 +93,7 @@ module _ (s : List ℕ) (room k used i : ℕ) (z : 0 < k) (F : Fillable s room k
       let ew : w ≡ ones (h .x) = y ∙ ap ones ex in
       let eu : used + c * w ≡ h .u = rw (ec, ew) (sym (h .table .cells)) in
       let k′ = good-clear s (F .0) room (F .1) used i (h .x) (h .c) (h .u) (h .e) (h .table) in
-      let r : runEnd (c * w) s q ≡ To (h .e) = rw (ec, eq, ew) (rows-run (h .c) (ones (h .x)) s _ 0 (h .table .q) (h .e) (h .table .rows)) in
+      let r : runEnd (c * w) s q ≡ To (h .e) = rw (ec, eq, ew) (rows-run (h .c) (ones (h .x)) s (F .0) _ 0 (h .table .q) (h .e) (h .table .rows)) in
       record {
         e = h .e;
         few = rw ec (k′ .few);

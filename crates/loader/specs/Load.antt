@@ -1,6 +1,6 @@
 -- "Load reports the first fault in reading order: a number's own faults (1, 2) as it is read, then its meaning; at a row count 6, then 8;
--- 7 after the row's last cell." Refusals stand in the order in which they are met; request #107 puts 17 where 2 was, and #110 puts 20 "after all else".
--- Assumes nothing.
+-- 7 after the row's last cell." Refusals stand in the order in which they are met; request #107 puts 17 where 2 was, #110 puts 20 "after all else",
+-- and #111 puts 21 before 7. Assumes nothing.
 use Prim.Native.Nat.{ℕ, zero, suc, _+_, _*_, _≤_}
 use mathlib.Core.Path.{_≡_}
 use mathlib.Core.List.{List, [], _++_}
@@ -63,7 +63,7 @@ unfoldable pub countAt : List ℕ → ℕ → ℕ → ℕ → ℕ → ℕ → En
 countAt s v room scheme used i =
     onNumber (decode s i)
     (λ rows n. onFault (countFault (mostRowsIn v) room used scheme rows) (λ k. TableFault (refusalAt k i 0))
-    (entryOf scheme rows (used + rows * ones scheme) (rowsFrom rows (ones scheme) s true 0 n)))
+    (entryOf scheme rows (used + rows * ones scheme) (rowsFrom rows (ones scheme) s v true 0 n)))
     (λ f c. TableFault (refusalAt f i c))
 
 -- A table from place i on, when there are m attributes.
@@ -127,7 +127,7 @@ farthest = 590000
 
 -- No refusal of an image has a number above this.
 abbrev pub highest : ℕ
-highest = 20
+highest = 21
 
 -- A fault lies at a place of at most b, and its number is at most the highest.
 abbrev pub NearFault : ℕ → Fault → Type 0

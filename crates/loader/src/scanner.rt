@@ -5,7 +5,8 @@ ghost use lib.ListN.{replicate};
 ghost use Prim.Native.Nat.{_<_, _≤_};
 ghost use lib.Count.{ones};
 ghost use Rattle.tables.specs.Sizes.{mostCells, mostTables};
-ghost use Rattle.tables.specs.Rows.{below};
+ghost use Rattle.tables.specs.Rows.{below, allNull};
+ghost use Rattle.tables.specs.Versions.{blank};
 ghost use Rattle.tables.specs.Catalogues.{firstCell};
 ghost use Rattle.loader.specs.Reading.{refusalAt, runEnd, codes, rowsFrom};
 ghost use Rattle.loader.specs.Load.{refused, fieldAt, entryOf, countAt, tableAt, tablesEnd, tablesFrom, scanOf};
@@ -77,9 +78,39 @@ fn rises(s: &[u8], p: usize, q: usize, width: usize) -> bool
     false
 }
 
-// The end of a table's rows, each strictly above the one before.
-fn rows_end(s: &[u8], at: usize, rows: usize, width: usize) -> Walk
-    ensures { λ r. ⌜ r ≡ rowsFrom rows width (now (s .entry)) true 0 at ⌝ }
+// Whether the row at a place has no value: every code is 0.
+fn all_null(s: &[u8], at: usize, width: usize) -> bool
+    ensures { λ r. ⌜ r ≡ allNull (codes width (now (s .entry)) at) ⌝ }
+{
+    let mut i = at;
+    let mut left = width;
+    while 0 < left {
+        let Reading::Number(x, n) = numbers::read(s, i) else {
+            return true;
+        };
+        if x != 0 {
+            return false;
+        }
+        i = n;
+        left = left - 1;
+    }
+    true
+}
+
+// Whether the row at a place is an all-null one in an image of version 2 (21).
+// Version 1 may hold such rows, and they are not looked for there.
+fn blank_at(s: &[u8], v: u64, at: usize, width: usize) -> bool
+    ensures { λ r. ⌜ r ≡ blank v (codes width (now (s .entry)) at) ⌝ }
+{
+    if v != 2 {
+        return false;
+    }
+    all_null(s, at, width)
+}
+
+// The end of a table's rows: in version 2 each has a value, and each lies strictly above the one before.
+fn rows_end(s: &[u8], v: u64, at: usize, rows: usize, width: usize) -> Walk
+    ensures { λ r. ⌜ r ≡ rowsFrom rows width (now (s .entry)) v true 0 at ⌝ }
 {
     let mut first = true;
     let mut before: usize = 0;
@@ -88,6 +119,9 @@ fn rows_end(s: &[u8], at: usize, rows: usize, width: usize) -> Walk
     while 0 < left {
         match run_end(s, i, width) {
             Walk::To(n) => {
+                if blank_at(s, v, i, width) {
+                    return Walk::WalkFault(refusal_at(21, i, 0));
+                }
                 if first || rises(s, before, i, width) {
                     first = false;
                     before = i;
@@ -106,11 +140,11 @@ fn rows_end(s: &[u8], at: usize, rows: usize, width: usize) -> Walk
 }
 
 // The rows of a table whose scheme and count are good; `used` cells lie behind them.
-fn rows_entry(s: &[u8], scheme: u64, rows: u16, used: usize, at: usize) -> Entry
-    ensures { λ r. ⌜ r ≡ entryOf scheme rows used (rowsFrom rows (ones scheme) (now (s .entry)) true 0 at) ⌝ }
+fn rows_entry(s: &[u8], v: u64, scheme: u64, rows: u16, used: usize, at: usize) -> Entry
+    ensures { λ r. ⌜ r ≡ entryOf scheme rows used (rowsFrom rows (ones scheme) (now (s .entry)) v true 0 at) ⌝ }
 {
     let width = tables::width(scheme);
-    match rows_end(s, at, rows as usize, width) {
+    match rows_end(s, v, at, rows as usize, width) {
         Walk::To(n) => Entry::Table(scheme, rows, used, n),
         Walk::WalkFault(f) => Entry::TableFault(f),
     }
@@ -129,7 +163,7 @@ fn count_at(s: &[u8], v: u64, room: usize, scheme: u64, used: usize, at: usize) 
                 return Entry::TableFault(refusal_at(f, at, 0));
             }
             let cells = used + (rows as usize) * tables::width(scheme);
-            rows_entry(s, scheme, rows as u16, cells, n)
+            rows_entry(s, v, scheme, rows as u16, cells, n)
         }
         Reading::NumberFault(k, looked) => Entry::TableFault(refusal_at(k, at, looked)),
     }

@@ -5,13 +5,15 @@ use native.Mathlib.Omega.{arith}
 use mathlib.Core.Path.{_≡_, refl, sym, _∙_}
 use mathlib.Core.Logic.{_⊎_, inl, inr, ⊎-elim}
 use mathlib.Core.Bool.{Bool, true, false, not, cond}
+use mathlib.Core.List.{List}
 use lib.Dec.{eqb}
 use borrow.Author.Tests.{lt-ltb, le-ltb, ltb-true, eq-eqb, ne-eqb}
 use Rattle.laws.proofs.TestLaws.{clash, which, any-some, any-of, any-none}
 use Rattle.tables.specs.declared.Catalogue.{Catalogue}
 use Rattle.tables.specs.Sizes.{mostRows, mostRowsOne, versionOne, versionTwo}
 use Rattle.tables.specs.Catalogues.{countOf}
-use Rattle.tables.specs.Versions.{longTable, someLong, versionOf, mostRowsIn, needless}
+use Rattle.tables.specs.Versions.{longTable, someLong, versionOf, mostRowsIn, needless, blank}
+use Rattle.tables.specs.Rows.{allNull}
 
 -- ---- the most rows
 
@@ -31,6 +33,16 @@ most-in v = by (eqb v versionOne)
     by : (b : Bool) → cond b mostRowsOne mostRows ≤ mostRows
     by true = omega arith
     by false = omega arith
+
+-- ---- all-null rows
+
+pub blank-other : (v : ℕ) (row : List ℕ) → (v ≡ versionTwo → ⊥) → blank v row ≡ false
+unfolding blank
+blank-other v row h = rw (ne-eqb v versionTwo h)
+
+pub blank-two : (v : ℕ) (row : List ℕ) → v ≡ versionTwo → blank v row ≡ allNull row
+unfolding blank
+blank-two v row e = rw (eq-eqb v versionTwo e)
 
 -- ---- the version of tables
 

@@ -6,7 +6,9 @@ use lib.Dec.{ltb, eqb}
 use Rattle.laws.specs.Tests.{any}
 use Rattle.tables.specs.declared.Catalogue.{Catalogue}
 use Rattle.tables.specs.Sizes.{mostRows, mostRowsOne, versionOne, versionTwo}
+use mathlib.Core.List.{List}
 use Rattle.tables.specs.Catalogues.{countOf}
+use Rattle.tables.specs.Rows.{allNull}
 
 -- Table t passes 255 rows.
 abbrev pub longTable : Catalogue → ℕ → Bool
@@ -27,3 +29,7 @@ mostRowsIn v = cond (eqb v versionOne) mostRowsOne mostRows
 -- "20, a version 2 image in which no table passes 255"
 unfoldable pub needless : ℕ → Catalogue → Bool
 needless v cat = eqb v versionTwo && not (someLong cat)
+
+-- "21, an all-null row where version 2 is read or would be written" (#111)
+unfoldable pub blank : ℕ → List ℕ → Bool
+blank v row = eqb v versionTwo && allNull row
