@@ -92,20 +92,20 @@ run-bytes s by (suc k) i e q =
 
 -- Rows that were read without fault are not refused by the writer, where their codes lie in the cells from `at` on. `same`: the row before them was written
 -- as it was read, unless they are the first.
-rows-back : (s : List ℕ) → ((k : ℕ) → getD s k 0 < 256) → (k w : ℕ) (cells : List ℕ) (first : Bool) (before at p i e : ℕ) (r : List ℕ) → rowsFrom k w s first p i ≡ To e
+rows-back : (s : List ℕ) → ((k : ℕ) → getD s k 0 < 256) → (v k w : ℕ) (cells : List ℕ) (first : Bool) (before at p i e : ℕ) (r : List ℕ) → rowsFrom k w s v first p i ≡ To e
     → ((ys : List ℕ) → (first || below (part before w cells) ys) ≡ (first || below (codes w s p) ys)) → drop at cells ≡ codes (k * w) s i ++ r
-    → rowsFault k w cells first before at ≡ 0
+    → rowsFault k w cells v first before at ≡ 0
 unfolding rowsFault
-rows-back s by zero w cells first before at p i e r q same d = refl
-rows-back s by (suc k) w cells first before at p i e r q same d =
-    let t = rows-was k w s first p i e q in
+rows-back s by v zero w cells first before at p i e r q same d = refl
+rows-back s by v (suc k) w cells first before at p i e r q same d =
+    let t = rows-was k w s v first p i e q in
     let n = t .0 in
     let row = codes w s i in
     let run = run-bytes s by w i n (t .1) in
     let all : drop at cells ≡ row ++ (codes (k * w) s n ++ r) = d ∙ rw (row-cells k w, run-add w (k * w) s i n (t .1) .1) (append-assoc row (codes (k * w) s n) r) in
     let here = part-stands cells at w row (codes (k * w) s n ++ r) (run .long) all in
-    let later = rows-back s by k w cells false at (at + w) i n e r (t .3) (λ ys. rw (here .0)) (here .1) in
-    rw (here .0, run .low, same row, t .2) later
+    let later = rows-back s by v k w cells false at (at + w) i n e r (t .4) (λ ys. rw (here .0)) (here .1) in
+    rw (here .0, run .low, t .2, same row, t .3) later
 
 -- ---- the catalogue
 
@@ -237,7 +237,7 @@ record TableRead (s : List ℕ) (v room : ℕ) (cat : Catalogue) (t i e : ℕ) :
   long : length (codes (cellCount cat t) s q) ≡ cellCount cat t
   all : (k : ℕ) → tablesCodes (suc k) s i ≡ codes (cellCount cat t) s q ++ tablesCodes k s e
   clear : faultAt cat room t ≡ 0
-  rows : rowsFrom (countOf cat t) (ones (schemeOf cat t)) s true 0 q ≡ To e
+  rows : rowsFrom (countOf cat t) (ones (schemeOf cat t)) s v true 0 q ≡ To e
 
 module _ (s : List ℕ) (by : (k : ℕ) → getD s k 0 < 256) (v room : ℕ) (cat : Catalogue) where
   table-read : (t i u e : ℕ) → tableAt s v room (cat .m) (firstCell cat t) i ≡ Table (schemeOf cat t) (countOf cat t) u e → TableRead s v room cat t i e
@@ -245,7 +245,7 @@ module _ (s : List ℕ) (by : (k : ℕ) → getD s k 0 < 256) (v room : ℕ) (ca
       let x = schemeOf cat t in
       let c = countOf cat t in
       let b = good-table s v room (cat .m) (firstCell cat t) i x c u e d in
-      let end = rows-run c (ones x) s true 0 (b .q) e (b .rows) in
+      let end = rows-run c (ones x) s v true 0 (b .q) e (b .rows) in
       let run = run-bytes s by (c * ones x) (b .q) e end in
       record {
         q = b .q;
@@ -280,13 +280,14 @@ module _ (s : List ℕ) (by : (k : ℕ) → getD s k 0 < 256) (v room : ℕ) (ca
       (rw (b .all k) (simp length-append (omega (arith, cells-next cat t, f .0, b .long))), f .1)
 
   -- Where the codes from table t on lie in the cells: the table's cells are its codes, no row is refused, and behind them lie the later codes.
-  table-back : (cells r : List ℕ) (k t i e : ℕ) (b : TableRead s v room cat t i e) → drop (firstCell cat t) cells ≡ tablesCodes (suc k) s i ++ r
+  table-back : v ≡ versionOf cat → (cells r : List ℕ) (k t i e : ℕ) (b : TableRead s v room cat t i e) → drop (firstCell cat t) cells ≡ tablesCodes (suc k) s i ++ r
       → (cellsOf cat cells t ≡ codes (cellCount cat t) s (b .q)) × (rowsRefusal cat cells t ≡ 0) × (drop (firstCell cat (t + 1)) cells ≡ tablesCodes k s e ++ r)
-  table-back cells r k t i e b d =
+  table-back carried cells r k t i e b d =
       let all : drop (firstCell cat t) cells ≡ codes (cellCount cat t) s (b .q) ++ (tablesCodes k s e ++ r) = d ∙ rw (b .all k) (append-assoc (codes (cellCount cat t) s (b .q)) (tablesCodes k s e) r) in
       let here = part-stands cells (firstCell cat t) (cellCount cat t) (codes (cellCount cat t) s (b .q)) (tablesCodes k s e ++ r) (b .long) all in
-      let rows = rows-back s by (countOf cat t) (ones (schemeOf cat t)) cells true 0 (firstCell cat t) 0 (b .q) e (tablesCodes k s e ++ r) (b .rows) (λ ys. refl) all in
-      (here .0, rows, rw (cells-next cat t) (here .1))
+      let rows = rows-back s by v (countOf cat t) (ones (schemeOf cat t)) cells true 0 (firstCell cat t) 0 (b .q) e (tablesCodes k s e ++ r) (b .rows) (λ ys. refl) all in
+      let written = subst (λ (x : ℕ). rowsFault (countOf cat t) (ones (schemeOf cat t)) cells x true 0 (firstCell cat t) ≡ 0) carried rows in
+      (here .0, written, rw (cells-next cat t) (here .1))
 
   -- No table is refused,
   pub tables-clear : (k t i : ℕ) → Tables s v room cat k t i → tablesFault k cat room t ≡ 0
@@ -295,14 +296,14 @@ module _ (s : List ℕ) (by : (k : ℕ) → getD s k 0 < 256) (v room : ℕ) (ca
       tables-more cat room (suc k) k t refl (table-read t i (firstCell cat (t + 1)) e h .clear) ∙ tables-clear k (t + 1) e T
 
   -- nor a row of theirs, where their codes lie in the cells; and there the writer makes of the tables the bytes that were read.
-  pub tables-back : (cells r : List ℕ) (k t i : ℕ) → Tables s v room cat k t i → drop (firstCell cat t) cells ≡ tablesCodes k s i ++ r
+  pub tables-back : v ≡ versionOf cat → (cells r : List ℕ) (k t i : ℕ) → Tables s v room cat k t i → drop (firstCell cat t) cells ≡ tablesCodes k s i ++ r
       → (drop i s ≡ tablesImage k cat cells t) × (cellsFault k cat cells t ≡ 0)
   unfolding tablesImage
-  tables-back cells r zero t i (none h) d = (drop-of-length-le s h, cells-none cat cells 0 t (omega arith))
-  tables-back cells r (suc k) t i (more {e = e} h T) d =
+  tables-back carried cells r zero t i (none h) d = (drop-of-length-le s h, cells-none cat cells 0 t (omega arith))
+  tables-back carried cells r (suc k) t i (more {e = e} h T) d =
       let b = table-read t i (firstCell cat (t + 1)) e h in
-      let c = table-back cells r k t i e b d in
-      let later = tables-back cells r k (t + 1) e T (c .2) in
+      let c = table-back carried cells r k t i e b d in
+      let later = tables-back carried cells r k (t + 1) e T (c .2) in
       (rw (c .0, ← later .0) (b .bytes), cells-more cat cells (suc k) k t refl (c .1) ∙ later .1)
 
 -- ---- the head
@@ -336,6 +337,7 @@ field-back s by i low high f x n h e =
 pub record ScanBack (s : List ℕ) (room : ℕ) (cat : Catalogue) : Type 0 where
   pub range : InRange (cat .m) (cat .n)
   pub v : ℕ
+  pub carried : v ≡ versionOf cat
   pub bytes : s ≡ encode (versionOf cat) ++ (encode (cat .m) ++ (encode (cat .n) ++ drop firstTable s))
   pub tables : Tables s v room cat (cat .n) 0 firstTable
   pub schemes : length (cat .schemes) ≡ mostTables
@@ -370,6 +372,7 @@ head-back s by room v i m j n k cat a b c e =
     record {
       range = R;
       v = v;
+      carried = ev;
       bytes = rw (ev, ← K .m-is, ← K .n-is, ek) at all;
       tables = rw (← K .n-is, ek) at T;
       schemes = K .schemes .long;

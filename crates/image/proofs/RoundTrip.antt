@@ -70,7 +70,7 @@ module _ (s lent : List ℕ) (cat : Catalogue) (by : (k : ℕ) → getD s k 0 < 
   unfolding firstCell
   tables-again =
       let codes = tablesCodes (cat .n) s firstTable in
-      tables-back s by (read .v) (length lent) cat (loadedCells cat s lent) (drop (length codes) lent) (cat .n) 0 firstTable (read .tables) refl
+      tables-back s by (read .v) (length lent) cat (read .carried) (loadedCells cat s lent) (drop (length codes) lent) (cat .n) 0 firstTable (read .tables) refl
 
   -- The tables are lawful and without fault.
   pub load-lawful : Lawful cat (length lent)

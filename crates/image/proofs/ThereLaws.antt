@@ -24,7 +24,7 @@ use Rattle.tables.specs.declared.Catalogue.{Catalogue}
 use Rattle.tables.specs.Catalogues.{schemeOf, countOf, firstCell, given}
 use Rattle.tables.specs.Sizes.{mostAttributes, mostTables, versionOne, versionTwo}
 use Rattle.tables.specs.Rows.{below}
-use Rattle.tables.specs.Versions.{versionOf, mostRowsIn, needless}
+use Rattle.tables.specs.Versions.{versionOf, mostRowsIn, needless, blank}
 use Rattle.tables.proofs.VersionLaws.{version-few, version-some, version-allows, version-needed, needless-same}
 use Rattle.tables.proofs.CatalogueLaws.{cells-next, table-ends}
 use Rattle.tables.proofs.CheckLaws.{inside, scheme-good, count-good, Clear, InRange}
@@ -36,6 +36,7 @@ use Rattle.loader.proofs.LoadLaws.{end-good}
 use Rattle.loader.specs.Reading.{runEnd, codes, rowsFrom}
 use Rattle.loader.specs.Load.{firstTable, fieldAt, countAt, tableAt, tablesFrom, scanOf, tablesCodes}
 use Rattle.writer.specs.Write.{encodes, cellsOf, tablesImage, imageOf, tooHigh, rowsFault, Accepted}
+use Rattle.writer.proofs.WriteLaws.{row-clear, rows-low}
 use Rattle.image.specs.RoundTrip.{front, trimmed, found}
 
 -- ---- lists
@@ -70,39 +71,11 @@ count-kept cat few long t h = front-at (cat .n) (cat .rows) t h (omega arith)
 
 -- ---- what the writer's tests say
 
-low-append : (xs ys : List ℕ) → tooHigh xs ≡ false → tooHigh ys ≡ false → tooHigh (xs ++ ys) ≡ false
-unfolding tooHigh
-low-append [] ys h l = l
-low-append (x ∷ xs) ys h l =
-    let c = or-none (leb (2 ^ 63) x) (tooHigh xs) h in
-    rw (c .0) (low-append xs ys (c .1) l)
-
 low-split : (x : ℕ) (xs : List ℕ) → tooHigh (x ∷ xs) ≡ false → (x < 2 ^ 63) × (tooHigh xs ≡ false)
 unfolding tooHigh
 low-split x xs e =
     let c = or-none (leb (2 ^ 63) x) (tooHigh xs) e in
     (leb-false (2 ^ 63) x (c .0), c .1)
-
-both-clear : (high rises : Bool) (rest : ℕ) → cond high 10 (cond rises rest 7) ≡ 0 → (high ≡ false) × (rises ≡ true) × (rest ≡ 0)
-both-clear true rises rest e = absurd (omega arith)
-both-clear false true rest e = (refl, refl, e)
-both-clear false false rest e = absurd (omega arith)
-
--- Where the writer refuses no row, the next row is low enough and rises, and the rows behind it are not refused.
-row-clear : (k w : ℕ) (cells : List ℕ) (first : Bool) (before at : ℕ) → rowsFault (suc k) w cells first before at ≡ 0
-    → (tooHigh (part at w cells) ≡ false) × ((first || below (part before w cells) (part at w cells)) ≡ true) × (rowsFault k w cells false at (at + w) ≡ 0)
-unfolding rowsFault
-row-clear k w cells first before at e =
-    both-clear (tooHigh (part at w cells)) (first || below (part before w cells) (part at w cells)) (rowsFault k w cells false at (at + w)) e
-
--- All cells of rows that the writer does not refuse are low enough.
-rows-low : (k w : ℕ) (cells : List ℕ) (first : Bool) (before at : ℕ) → rowsFault k w cells first before at ≡ 0 → tooHigh (part at (k * w) cells) ≡ false
-unfolding tooHigh
-rows-low zero w cells first before at f = rw (zero-mul w)
-rows-low (suc k) w cells first before at f =
-    let g = row-clear k w cells first before at f in
-    rw (row-cells k w, part-append at w (k * w) cells)
-    (low-append (part at w cells) (part (at + w) (k * w) cells) (g .0) (rows-low k w cells false at (at + w) (g .2)))
 
 -- ---- what the writer's bytes are
 
@@ -174,28 +147,29 @@ module _ (s : List ℕ) where
   -- ---- rows
 
   -- Rows that the writer does not refuse are read to their end. `same`: the row before them reads as it was written, unless they are the first.
-  rows-read : (k w : ℕ) (cells : List ℕ) (first : Bool) (before at p i : ℕ) (r : List ℕ) → at + k * w ≤ length cells → rowsFault k w cells first before at ≡ 0
+  rows-read : (v k w : ℕ) (cells : List ℕ) (first : Bool) (before at p i : ℕ) (r : List ℕ) → at + k * w ≤ length cells → rowsFault k w cells v first before at ≡ 0
       → ((ys : List ℕ) → (first || below (codes w s p) ys) ≡ (first || below (part before w cells) ys)) → drop i s ≡ encodes (part at (k * w) cells) ++ r
-      → rowsFrom k w s first p i ≡ To (i + length (encodes (part at (k * w) cells)))
+      → rowsFrom k w s v first p i ≡ To (i + length (encodes (part at (k * w) cells)))
   unfolding rowsFrom encodes
-  rows-read zero w cells first before at p i r h f same e = rw (zero-mul w) (rw add-zero)
-  rows-read (suc k) w cells first before at p i r h f same e =
+  rows-read v zero w cells first before at p i r h f same e = rw (zero-mul w) (rw add-zero)
+  rows-read v (suc k) w cells first before at p i r h f same e =
       let row = part at w cells in
       let rest = part (at + w) (k * w) cells in
-      let g = row-clear k w cells first before at f in
+      let g = row-clear cells w v k first before at f in
       let m = row-cells k w in
       let all : encodes (part at (suc k * w) cells) ≡ encodes row ++ encodes rest = rw m (ap encodes (part-append at w (k * w) cells) ∙ encodes-append row rest) in
       let here : drop i s ≡ encodes row ++ (encodes rest ++ r) = e ∙ rw all (append-assoc (encodes row) (encodes rest) r) in
       let read = part-reads at w cells (encodes rest ++ r) i (omega arith) (g .0) here in
-      let rises : (first || below (codes w s p) (codes w s i)) ≡ true = rw (read .1) (same row ∙ g .1) in
-      let later = rows-read k w cells false at (at + w) i (i + length (encodes row)) r (omega arith) (g .2) (λ ys. rw (read .1)) (behind i (encodes row) (encodes rest ++ r) here) in
+      let rises : (first || below (codes w s p) (codes w s i)) ≡ true = rw (read .1) (same row ∙ g .2) in
+      let filed : blank v (codes w s i) ≡ false = rw (read .1) (g .1) in
+      let later = rows-read v k w cells false at (at + w) i (i + length (encodes row)) r (omega arith) (g .3) (λ ys. rw (read .1)) (behind i (encodes row) (encodes rest ++ r) here) in
       let n : i + length (encodes row) + length (encodes rest) ≡ i + length (encodes row ++ encodes rest) = simp length-append (omega arith) in
-      rw (read .0, rises, all) (later ∙ ap To n)
+      rw (read .0, filed, rises, all) (later ∙ ap To n)
 
   -- ---- a table
 
   -- The entry of a table whose parts are read without fault.
-  table-entry : (v room m used i x n c q e : ℕ) → decode s i ≡ Number x n → decode s n ≡ Number c q → Clear m room used x c → c ≤ mostRowsIn v → rowsFrom c (ones x) s true 0 q ≡ To e
+  table-entry : (v room m used i x n c q e : ℕ) → decode s i ≡ Number x n → decode s n ≡ Number c q → Clear m room used x c → c ≤ mostRowsIn v → rowsFrom c (ones x) s v true 0 q ≡ To e
       → tableAt s v room m used i ≡ Table x c (used + c * ones x) e
   unfolding tableAt countAt
   table-entry v room m used i x n c q e a b h few d =
@@ -252,15 +226,15 @@ module _ (cat : Catalogue) (cells : List ℕ) (A : Accepted cat cells) (room : �
   module _ (s : List ℕ) where
     -- The cells of a table read as they were written, by rows and one after the other.
     cells-read : (t q : ℕ) (r : List ℕ) → t < cat .n → drop q s ≡ encodes (cellsOf cat cells t) ++ r
-        → (rowsFrom (countOf cat t) (ones (schemeOf cat t)) s true 0 q ≡ To (q + length (encodes (cellsOf cat cells t))))
+        → (rowsFrom (countOf cat t) (ones (schemeOf cat t)) s (versionOf cat) true 0 q ≡ To (q + length (encodes (cellsOf cat cells t))))
         × (runEnd (countOf cat t * ones (schemeOf cat t)) s q ≡ To (q + length (encodes (cellsOf cat cells t))))
         × (codes (countOf cat t * ones (schemeOf cat t)) s q ≡ cellsOf cat cells t)
     cells-read t q r h e =
         let c = countOf cat t in
         let w = ones (schemeOf cat t) in
         let held : firstCell cat t + c * w ≤ length cells = omega (arith, table-ends cat t h, A .lawful .room) in
-        let run = part-reads s (firstCell cat t) (c * w) cells r q held (rows-low c w cells true 0 (firstCell cat t) (A .rows t h)) e in
-        (rows-read s c w cells true 0 (firstCell cat t) 0 q r held (A .rows t h) (λ ys. refl) e, run .0, run .1)
+        let run = part-reads s (firstCell cat t) (c * w) cells r q held (rows-low cells w (versionOf cat) c true 0 (firstCell cat t) (A .rows t h)) e in
+        (rows-read s (versionOf cat) c w cells true 0 (firstCell cat t) 0 q r held (A .rows t h) (λ ys. refl) e, run .0, run .1)
 
     table-reads : (t i : ℕ) (r : List ℕ) → t < cat .n → drop i s ≡ encode (schemeOf cat t) ++ (encode (countOf cat t) ++ (encodes (cellsOf cat cells t) ++ r))
         → TableThere s (versionOf cat) room (cat .m) (firstCell cat t) i (schemeOf cat t) (countOf cat t) (cellsOf cat cells t) r

@@ -48,3 +48,12 @@ pub record VersionEdges : Type 0 where
   -- 9 comes before 20.
   pub surplus-first : scanOf (0x02 ∷ 0x01 ∷ 0x01 ∷ 0x01 ∷ 0x00 ∷ 0x00 ∷ []) mostCells .verdict ≡ Refused (refusalAt 9 5 0)
   pub no-need : scanOf (0x02 ∷ 0x01 ∷ 0x01 ∷ 0x01 ∷ 0x00 ∷ []) mostCells .verdict ≡ Refused (refusalAt 20 0 0)
+
+-- Request #111: "21, an all-null row where version 2 is read ..; after the row's last cell, before 7, with the row's place on loading." A number's own fault
+-- comes first, 7 and 20 come behind it, and version 1 takes such a row (`one-row`). The images have one table over the attributes 0 and 1.
+pub record NullEdges : Type 0 where
+  pub null-row : scanOf (0x02 ∷ 0x02 ∷ 0x01 ∷ 0x03 ∷ 0x01 ∷ 0x00 ∷ 0x00 ∷ []) mostCells .verdict ≡ Refused (refusalAt 21 5 0)
+  pub one-value : scanOf (0x02 ∷ 0x02 ∷ 0x01 ∷ 0x03 ∷ 0x01 ∷ 0x00 ∷ 0x05 ∷ []) mostCells .verdict ≡ Refused (refusalAt 20 0 0)
+  pub cell-first : scanOf (0x02 ∷ 0x02 ∷ 0x01 ∷ 0x03 ∷ 0x01 ∷ 0x00 ∷ []) mostCells .verdict ≡ Refused (refusalAt 1 6 0)
+  pub before-seven : scanOf (0x02 ∷ 0x02 ∷ 0x01 ∷ 0x03 ∷ 0x02 ∷ 0x05 ∷ 0x05 ∷ 0x00 ∷ 0x00 ∷ []) mostCells .verdict ≡ Refused (refusalAt 21 7 0)
+  pub seven-in-one : scanOf (0x01 ∷ 0x02 ∷ 0x01 ∷ 0x03 ∷ 0x02 ∷ 0x05 ∷ 0x05 ∷ 0x00 ∷ 0x00 ∷ []) mostCells .verdict ≡ Refused (refusalAt 7 7 0)
