@@ -153,9 +153,10 @@ module _ (cat : Catalogue) where
   stored-iff : (k : ℕ) → (storedFault cat ≡ k) ↔ Case 16 k Wrong (Case 0 k (Wrong → ⊥) ⊥)
   unfolding storedFault
   stored-iff =
-      last-iff (any (cat .n) (misstored cat))
-      (λ e. let (t, l, y) = any-some (cat .n) (misstored cat) e in (t, l, misstored-iff t .0 y),
-      λ (t, l, x). any-of (cat .n) (misstored cat) t l (misstored-iff t .1 x))
+      last-iff (any (cat .n) (misstored cat)) (
+        λ e. let (t, l, y) = any-some (cat .n) (misstored cat) e in (t, l, misstored-iff t .0 y),
+        λ (t, l, x). any-of (cat .n) (misstored cat) t l (misstored-iff t .1 x),
+      )
       16 (λ z. absurd (omega arith))
 
   -- ---- the catalogue

@@ -23,6 +23,7 @@ use Rattle.tables.specs.Sizes.{mostTables}
 use Rattle.tables.specs.Catalogues.{schemeOf, countOf, firstCell, touch, touchingBelow, rowStart, codeOf, rowsBefore, total}
 use Rattle.tables.specs.Checks.{firstOf, sizeFault, tableFault, tablesFault, shapeFault, misstored, storedFault, catalogueFault, Lawful}
 use Rattle.tables.proofs.CheckLaws.{fault-lawful}
+use Rattle.tables.proofs.VersionLaws.{version-same}
 use Rattle.disjunction.specs.Sets.{Tables, at}
 use Rattle.disjunction.specs.Rule.{Place, addRow, rowAt, member, Grown, extension, alone, trial}
 use Rattle.disjunction.specs.Asked.{Asked, everySet, everyWith, wanted, firstFor}
@@ -248,7 +249,7 @@ module _ (cat : Catalogue) (xs cs ps ms : List ℕ) (A : Agree cat xs cs ps ms) 
 
     image-same : imageOf cat′ cells ≡ imageOf cat cells
     unfolding imageOf
-    image-same = rw (tables-image (cat .n) 0 (omega arith)) refl
+    image-same = rw (version-same cat cat′ refl (A .rows), tables-image (cat .n) 0 (omega arith)) refl
 
     write-fault : writeFault cat′ cells ≡ writeFault cat cells
     unfolding writeFault

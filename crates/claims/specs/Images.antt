@@ -1,5 +1,5 @@
 -- From an image on: demands 2 and 3 of tables that the loader accepts, from load's promise over open's to the last call's, and the two round trips, each
--- over what the public calls promise. Proved in proofs/Imaged. Assumes nothing.
+-- over what the public calls promise; and the version that an image carries. Proved in proofs/Imaged. Assumes nothing.
 use Prim.Native.Nat.{ℕ, _+_, _*_, _≤_, _<_}
 use mathlib.Core.Path.{_≡_}
 use mathlib.Core.Logic.{_↔_}
@@ -9,8 +9,8 @@ use Rattle.laws.specs.Lists.{put}
 use Rattle.laws.specs.Distinct.{Distinct}
 use Rattle.keys.specs.Keys.{bitsPerRow, keyOf}
 use Rattle.tables.specs.declared.Catalogue.{Catalogue}
-use Rattle.tables.specs.Sizes.{mostTables}
-use Rattle.tables.specs.Catalogues.{firstCell, total}
+use Rattle.tables.specs.Sizes.{mostTables, mostRowsOne, versionOne, versionTwo}
+use Rattle.tables.specs.Catalogues.{countOf, firstCell, total}
 use Rattle.rows.specs.World.{worldOf}
 use Rattle.rows.specs.Named.{There}
 use Rattle.disjunction.specs.Sets.{MoreOf}
@@ -77,3 +77,10 @@ pub record RoundTrips : Type 0 where
       → length (cat .schemes) ≡ mostTables → length (cat .rows) ≡ mostTables → firstCell cat (cat .n) ≤ length lent
       → Writes cat cells out (Length n) wrote → Loads (take n wrote) lent r after
       → (r ≡ found (trimmed cat)) × (after ≡ put (take (firstCell cat (cat .n)) cells) lent)
+
+-- "Images with a table above 255 rows carry version 2, all others version 1" (#110): the first byte that a write puts down, exactly when.
+pub record Carries : Type 0 where
+  pub two : (cat : Catalogue) (cells out wrote : List ℕ) (n : ℕ) → Writes cat cells out (Length n) wrote
+      → (getD wrote 0 0 ≡ versionTwo) ↔ ((t : ℕ) × (t < cat .n) × (mostRowsOne < countOf cat t))
+  pub one : (cat : Catalogue) (cells out wrote : List ℕ) (n : ℕ) → Writes cat cells out (Length n) wrote
+      → (getD wrote 0 0 ≡ versionOne) ↔ ((t : ℕ) → t < cat .n → countOf cat t ≤ mostRowsOne)

@@ -19,8 +19,8 @@ use Rattle.tables.specs.Checks.{Lawful}
 pub one-shl : (a : ℕ) → a < 64 → 1 * 2 ^ a % 2 ^ 64 ≡ 2 ^ a
 one-shl a h = shl-exact 1 a 64 (omega arith) (omega arith) ∙ omega arith
 
--- a table of at most 255 rows has at most 16,320 cells
-pub cells-few : (rows scheme : ℕ) → rows ≤ mostRows → scheme < 2 ^ 64 → rows * ones scheme ≤ 16320
+-- a scheme is a word, so a row has at most 64 cells
+pub cells-few : (rows scheme : ℕ) → rows ≤ mostRows → scheme < 2 ^ 64 → rows * ones scheme ≤ mostRows * 64
 cells-few rows scheme h l = mul-le-mul h (ones-le 64 scheme l)
 
 -- where the scheme has no attribute below a, none is counted

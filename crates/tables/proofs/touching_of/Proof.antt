@@ -40,7 +40,7 @@ loop-less : tie.Need-loop-less Inv-loop μ-loop
 loop-less c = search needs
 
 loop-again : tie.Need-loop-again Inv-loop μ-loop
-loop-again c = 
+loop-again c =
     let l = c .before .before .loop in
     (omega (arith, c .before .loop-test .taken), rw (l .inv .1, c .touch-bit .ensures) (sym (touching-next _ _ (l .u))))
 
