@@ -11,7 +11,7 @@ use lib.Pow.{pow-pos}
 use Rattle.laws.proofs.TestLaws.{and-split}
 use Rattle.words.specs.Words.{bitOf}
 use Rattle.words.proofs.WordLaws.{bit-and, less-lt, less-bit}
-use Rattle.tables.specs.Sizes.{mostTables}
+use Rattle.tables.specs.Sizes.{mostTables, mostRows}
 use Rattle.tables.specs.Catalogues.{countOf, rowsBefore}
 use Rattle.tables.proofs.CatalogueLaws.{one-shl, table-ends, rows-few}
 use Rattle.disjunction.specs.Sets.{at}
@@ -257,18 +257,18 @@ mul-tests c = omega (arith, eight (low (found (c .before .before) .before)))
 element-copy-out-tests : tie.Need-element-copy-out-tests Inv-loop μ-loop Inv-rounds μ-rounds
 element-copy-out-tests c = omega (arith, eight (low (found (c .before .before) .before)))
 
--- what is added to the tests
+-- what is added to the tests is small
 abbrev Sums : tie.After-tests Inv-loop μ-loop Inv-rounds μ-rounds → Type 0
 Sums c =
     let f = found (c .before .before .before) .before in
-    (walk (low f) .before .rounds .tests ≤ mostTests) × (getD (start (walk (low f)) .args .t3 .before) (low f .lowest .result) 0 ≤ 2040)
-    × (f .first-fit .result ≤ 255)
+    let l = walk (low f) in
+    (l .before .rounds .tests ≤ mostTests) × Small (start l .args .t1) (start l .args .t3) (low f .lowest .result) × (f .first-fit .result < mostRows)
 
 sums : (c : tie.After-tests Inv-loop μ-loop Inv-rounds μ-rounds) → Sums c
 sums c =
     let t = found (c .before .before .before) in
     let a = low (t .before) in
-    (few (walk a), small a .before, omega (arith, t .if1 .taken, start (walk a) .pre .0 .rows _ (turn a)))
+    (few (walk a), small a, omega (arith, t .if1 .taken, start (walk a) .pre .0 .rows _ (turn a)))
 
 cast-tests : tie.Need-cast-tests Inv-loop μ-loop Inv-rounds μ-rounds
 cast-tests c = omega (arith, sums c)
