@@ -1,11 +1,11 @@
 //! Random calls of open, next (of every set, and of those that hold one row) and covers on both sides.
-use crate::lending::{Lending, Pair, MISFITS, NO_SUCH_ROW};
+use crate::lending::{Lending, Pair, KEYS, MISFITS, NO_SUCH_ROW};
 use crate::lent::Lent;
 use crate::library;
 use crate::make::{self, Tables};
 use crate::random::Random;
 use crate::refusal::Refusal;
-use crate::rule::Asked;
+use crate::rule::{Asked, Key, ROW_BITS};
 use crate::stored;
 use crate::tally::Tally;
 use crate::words::{self, CATALOGUE, HOLDING, RECORD, RESULT};
@@ -24,9 +24,16 @@ const UNSEARCHED: [&str; 4] = [
 ];
 const COVERS: [&str; 3] = ["0", "1", "0 unequal length"];
 
+/// The most rows with which a call may be told to make N trials.
+/// Each makes N row tests or more.
+const FEW_ROWS: u64 = 600;
+
 /// A budget for a call: none, a few, enough, or as many as can be said.
-/// Total is N.
+/// Total is N; where there are many rows, mostly a few.
 fn budget(random: &mut Random, total: u64) -> u64 {
+    if total > FEW_ROWS || total > 255 && random.percent(97) {
+        return random.below(4);
+    }
     match random.below(8) {
         0 => 0,
         1 => 1,
@@ -40,6 +47,9 @@ fn budget(random: &mut Random, total: u64) -> u64 {
 /// Tables for a stream: small ones that join, some without rows, some as images have them.
 /// Now and then a cell is 2^63 or more, or rows repeat: stream calls take any cells.
 fn some_tables(random: &mut Random) -> Tables {
+    if random.below(70) == 0 {
+        return make::long_tables(random);
+    }
     let most = random.pick(&[100, 400, 400, 3000]);
     let mut tables = make::stream_tables(random, most);
     match random.below(40) {
@@ -75,18 +85,19 @@ fn some_row(random: &mut Random, words: &[u64]) -> (u64, u64) {
     }
 }
 
-/// A key that may be damaged: 0, anything, rows that are there, one row too high, or a table from n on.
+/// A key that may be damaged: 0, anything, rows that are there, one row too high, a table from n on, a spare bit, or words the other way round.
 /// The catalogue's words tell which rows are there.
-fn some_key(random: &mut Random, words: &[u64], key: u64) -> u64 {
+fn some_key(random: &mut Random, words: &[u64], key: Key) -> Key {
     let n = words[1].clamp(1, 8) as usize;
     let table = random.range(0, n - 1);
-    match random.below(6) {
-        0 => 0,
-        1 => random.word() >> random.below(64),
-        2 | 3 => (0..n).fold(0, |key, table| key | random.below(words[10 + table].min(255) + 1) << (8 * table)),
-        4 => key & !(0xff << (8 * table)) | words[10 + table].saturating_add(1).min(255) << (8 * table),
-        _ if n < 8 => key | 1 << (8 * n + random.range(0, 63 - 8 * n)),
-        _ => key ^ 1 << random.below(64),
+    match random.below(8) {
+        0 => Key::default(),
+        1 => Key::of(random.word() >> random.below(64), random.word() * random.below(2)),
+        2 | 3 => (0..n).fold(Key::default(), |key, table| key.with_row(table, random.below(words[10 + table].min(4095) + 1) as u16)),
+        4 => key.with_row(table, words[10 + table].saturating_add(1).min(4095) as u16),
+        5 if n < 8 => key.with_row(random.range(n, 7), 1 << random.below(12)),
+        5 => Key::of(key.high, key.low),
+        _ => make::spare_bit(random, key),
     }
 }
 
@@ -101,11 +112,11 @@ fn damage_store(random: &mut Random, lending: &mut Lending) {
     let place = random.range(0, used - 1);
     match random.below(4) {
         0 | 1 => {
-            let key = some_key(random, lending.catalogue.slice(), lending.keys.slice()[place]);
+            let key = some_key(random, lending.catalogue.slice(), lending.key(place));
             let taken = lending.record.slice().get(1).copied().unwrap_or(0);
             let due = (taken as usize).min(used - 1);
             let aimed = random.pick(&[place, due, due, (taken as usize).clamp(1, used) - 1]);
-            lending.keys.slice_mut()[aimed] = key;
+            lending.set_key(aimed, key);
         }
         2 => {
             let near = random.pick(&[0, 1, found, found + 1, 65_535]) as u16;
@@ -127,17 +138,22 @@ fn damage_store(random: &mut Random, lending: &mut Lending) {
 /// The last record alone has another key, which some trial may seek.
 fn chain_store(random: &mut Random, lending: &mut Lending) {
     let (words, total) = (lending.catalogue.slice(), lending.total().min(5000));
-    let length = (8 * words[1].min(8) as usize + random.range(0, 2)).min(lending.records());
+    let deepest = ROW_BITS * words[1].min(8) as usize;
+    let length = if random.percent(60) { deepest + random.range(0, 2) } else { random.range(1, deepest.max(1)) }.min(lending.records());
     let Some(record) = lending.stream_record() else {
         return;
     };
     if length < 2 || record.found < 2 || record.found as usize > lending.records() {
         return;
     }
-    let other = lending.keys.slice()[random.range(1, record.found as usize - 1)];
+    let (first, mut other) = (lending.key(0), lending.key(random.range(1, record.found as usize - 1)));
+    if random.percent(10) {
+        let spare = make::spare_bit(random, other);
+        other = random.pick(&[Key::of(other.low, first.high), Key::of(first.low, other.high), spare]);
+    }
     for place in 0..length {
         let link = if place + 1 < length { place as u16 + 2 } else { 0 };
-        lending.keys.slice_mut()[place] = if place + 1 < length { lending.keys.slice()[0] } else { other };
+        lending.set_key(place, if place + 1 < length { first } else { other });
         lending.left.slice_mut()[place] = link;
         lending.right.slice_mut()[place] = link;
     }
@@ -229,8 +245,9 @@ fn damage(random: &mut Random, lending: &mut Lending) {
         }
         _ => {
             let records = random.range(0, lending.records());
-            let keys = lending.keys.slice()[..records].to_vec();
-            lending.keys = Lent::holding(&keys, random);
+            let words = if random.percent(50) { &mut lending.low } else { &mut lending.high };
+            let kept = words.slice()[..records].to_vec();
+            *words = Lent::holding(&kept, random);
         }
     }
 }
@@ -240,13 +257,14 @@ fn damage(random: &mut Random, lending: &mut Lending) {
 fn lengthen(random: &mut Random, lending: &mut Lending) {
     let records = lending.records();
     let longer = records + random.pick(&[1, 1, 2, 30]);
-    let mut keys = Lent::pattern(longer, random);
-    let mut left = Lent::pattern(longer, random);
-    let mut right = Lent::pattern(longer, random);
-    keys.slice_mut()[..records].copy_from_slice(&lending.keys.slice()[..records]);
-    left.slice_mut()[..records].copy_from_slice(&lending.left.slice()[..records]);
-    right.slice_mut()[..records].copy_from_slice(&lending.right.slice()[..records]);
-    (lending.keys, lending.left, lending.right) = (keys, left, right);
+    for words in [&mut lending.low, &mut lending.high] {
+        let kept = std::mem::replace(words, Lent::pattern(longer, random));
+        words.slice_mut()[..records].copy_from_slice(&kept.slice()[..records]);
+    }
+    for links in [&mut lending.left, &mut lending.right] {
+        let kept = std::mem::replace(links, Lent::pattern(longer, random));
+        links.slice_mut()[..records].copy_from_slice(&kept.slice()[..records]);
+    }
 }
 
 /// A whole stream from open to finished, or until a full store is not made longer.
@@ -351,10 +369,12 @@ fn longest_store(random: &mut Random, tally: &mut Tally, asked: Asked) -> Result
     let edges = [(65_534, 65_535, 32), (65_534, 65_534, 12), (65_535, 65_535, 12), (65_535, 65_536, 12), (65_535, 70_000, 12), (65_536, 70_000, 13)];
     for (found, lent, answer) in edges {
         let mut lending = Lending::of(random, &tables, asked, 0);
-        lending.keys = Lent::pattern(lent, random);
+        lending.low = Lent::pattern(lent, random);
+        lending.high = Lent::pattern(lent + 2, random);
         lending.left = Lent::pattern(lent, random);
         lending.right = Lent::pattern(lent + 1, random);
-        lending.keys.slice_mut()[..2].copy_from_slice(&[1, 1]);
+        lending.set_key(0, Key::of(1, 0));
+        lending.set_key(1, Key::of(1, 0));
         lending.left.slice_mut()[0] = 0;
         let words = lending.record_words();
         lending.record.slice_mut()[..words].copy_from_slice(&[found, 1, 1, 0, 2][..words]);
@@ -367,9 +387,16 @@ fn longest_store(random: &mut Random, tally: &mut Tally, asked: Asked) -> Result
     Ok(())
 }
 
-/// Sets written down by hand: each is its key and its padded row.
+/// Sets written down by hand: each is its row numbers, lowest table first, and its padded row.
 /// They stand in the order of handing out.
-type Sets = &'static [(u64, &'static [u64])];
+type Sets = &'static [(&'static [u16], &'static [u64])];
+
+/// The words of a key by its row numbers, lowest table first, as the request writes them: five in the first word, the rest in the second.
+fn key_words(rows: &[u16]) -> [u64; 2] {
+    let word = |rows: &[u16]| rows.iter().rev().fold(0, |word, &row| word * 4096 + u64::from(row));
+    let (first, second) = rows.split_at(rows.len().min(5));
+    [word(first), word(second)]
+}
 
 /// Drains one stream on both sides and compares it with sets written down by hand.
 /// Behind the last of them the stream is finished.
@@ -378,10 +405,11 @@ fn written_down(random: &mut Random, tally: &mut Tally, name: &str, image: &str,
     let tables = Tables { catalogue, cells };
     let mut pair = Pair::of(Lending::of(random, &tables, asked, 20));
     pair.open(tally)?;
-    for (key, padded) in sets {
+    for (rows, padded) in sets {
         hold!(pair.next(u64::MAX, tally)? == 32, "edge {name}: no set");
         let lent = pair.lent();
-        hold!(lent.result.slice()[0] == *key, "edge {name}: key {} instead of {key}", lent.result.slice()[0]);
+        let key = key_words(rows);
+        hold!(lent.result.slice()[..2] == key, "edge {name}: key {:x?} instead of {key:x?}", &lent.result.slice()[..2]);
         hold!(lent.padded.slice().starts_with(padded), "edge {name}: another padded row");
     }
     hold!(pair.next(u64::MAX, tally)? == 64, "edge {name}: not finished");
@@ -394,14 +422,14 @@ fn edges(random: &mut Random, tally: &mut Tally) {
     let two = "01 01 02 01 01";
     let cases: [(&str, String, Sets); 9] = [
         ("P no rows", "01 01 01 01 00".to_string(), &[]),
-        ("P one null row", "01 01 01 01 01 00".to_string(), &[(1, &[0])]),
-        ("P values 10 and 4,294,967,306", format!("{two} 0B 01 01 8B 80 80 80 10"), &[(1, &[11]), (0x100, &[4_294_967_307])]),
-        ("values 10 and 10", format!("{two} 0B 01 01 0B"), &[(0x101, &[11])]),
-        ("P null and null", format!("{two} 00 01 01 00"), &[(1, &[0]), (0x100, &[0])]),
-        ("nothing shared", "01 02 02 01 01 02 02 01 02".to_string(), &[(1, &[2, 0]), (0x100, &[0, 2])]),
-        ("two sets with one padded row", "01 02 02 03 01 02 00 03 01 02 00".to_string(), &[(1, &[2, 0]), (0x100, &[2, 0])]),
-        ("connected later", "01 03 03 03 01 02 02 04 01 02 06 01 02 02".to_string(), &[(0x1_0101, &[2, 2, 2])]),
-        ("an early null does not block", "01 03 03 03 01 02 00 05 01 02 03 06 01 05 03".to_string(), &[(0x101, &[2, 0, 3]), (0x1_0100, &[2, 5, 3])]),
+        ("P one null row", "01 01 01 01 01 00".to_string(), &[(&[1], &[0])]),
+        ("P values 10 and 4,294,967,306", format!("{two} 0B 01 01 8B 80 80 80 10"), &[(&[1], &[11]), (&[0, 1], &[4_294_967_307])]),
+        ("values 10 and 10", format!("{two} 0B 01 01 0B"), &[(&[1, 1], &[11])]),
+        ("P null and null", format!("{two} 00 01 01 00"), &[(&[1], &[0]), (&[0, 1], &[0])]),
+        ("nothing shared", "01 02 02 01 01 02 02 01 02".to_string(), &[(&[1], &[2, 0]), (&[0, 1], &[0, 2])]),
+        ("two sets with one padded row", "01 02 02 03 01 02 00 03 01 02 00".to_string(), &[(&[1], &[2, 0]), (&[0, 1], &[2, 0])]),
+        ("connected later", "01 03 03 03 01 02 02 04 01 02 06 01 02 02".to_string(), &[(&[1, 1, 1], &[2, 2, 2])]),
+        ("an early null does not block", "01 03 03 03 01 02 00 05 01 02 03 06 01 05 03".to_string(), &[(&[1, 1], &[2, 0, 3]), (&[0, 1, 1], &[2, 5, 3])]),
     ];
     for (name, image, sets) in cases {
         let result = written_down(random, tally, name, &image, Asked::EverySet, sets);
@@ -419,18 +447,145 @@ fn row_edges(random: &mut Random, tally: &mut Tally) {
     let sample = "01 03 03 03 02 02 0B 03 15 06 02 0B 08 8B 80 80 80 10 0A 05 02 02 08 03 00";
     let shared = "01 03 03 03 01 02 00 05 01 02 03 06 01 05 03";
     let cases: [(&str, &str, u64, u64, Sets); 9] = [
-        ("sample, first row", sample, 0, 1, &[(0x1_0101, &[2, 11, 8])]),
-        ("sample, row 2 of table 0", sample, 0, 2, &[(0x2_0002, &[3, 21, 0])]),
-        ("sample, row 1 of table 1", sample, 1, 1, &[(0x1_0101, &[2, 11, 8])]),
-        ("sample, row 2 of table 1", sample, 1, 2, &[(0x200, &[0, 4_294_967_307, 10])]),
-        ("sample, last row", sample, 2, 2, &[(0x2_0002, &[3, 21, 0])]),
-        ("shared, row of one set", shared, 0, 1, &[(0x101, &[2, 0, 3])]),
-        ("shared, row of two sets", shared, 1, 1, &[(0x101, &[2, 0, 3]), (0x1_0100, &[2, 5, 3])]),
-        ("shared, row of the other set", shared, 2, 1, &[(0x1_0100, &[2, 5, 3])]),
-        ("a null row", "01 01 02 01 01 00 01 01 00", 1, 1, &[(0x100, &[0])]),
+        ("sample, first row", sample, 0, 1, &[(&[1, 1, 1], &[2, 11, 8])]),
+        ("sample, row 2 of table 0", sample, 0, 2, &[(&[2, 0, 2], &[3, 21, 0])]),
+        ("sample, row 1 of table 1", sample, 1, 1, &[(&[1, 1, 1], &[2, 11, 8])]),
+        ("sample, row 2 of table 1", sample, 1, 2, &[(&[0, 2], &[0, 4_294_967_307, 10])]),
+        ("sample, last row", sample, 2, 2, &[(&[2, 0, 2], &[3, 21, 0])]),
+        ("shared, row of one set", shared, 0, 1, &[(&[1, 1], &[2, 0, 3])]),
+        ("shared, row of two sets", shared, 1, 1, &[(&[1, 1], &[2, 0, 3]), (&[0, 1, 1], &[2, 5, 3])]),
+        ("shared, row of the other set", shared, 2, 1, &[(&[0, 1, 1], &[2, 5, 3])]),
+        ("a null row", "01 01 02 01 01 00 01 01 00", 1, 1, &[(&[0, 1], &[0])]),
     ];
     for (name, image, table, row, sets) in cases {
         let result = written_down(random, tally, name, image, Asked::Holding { table, row }, sets);
+        tally.compare(result);
+    }
+}
+
+/// The stream of a row of long tables: one set, with row numbers of either word up to the most.
+/// The set comes first, then what is tried on it: a few trials, each with row tests and a look.
+fn long_row(random: &mut Random, tally: &mut Tally, counts: (u16, u16), asked: (u64, u64), key: [u64; 2]) -> Result<(), String> {
+    let tables = make::long_pair(counts.0, counts.1);
+    let mut pair = Pair::of(Lending::of(random, &tables, Asked::Holding { table: asked.0, row: asked.1 }, 3));
+    let total = u64::from(counts.0) + u64::from(counts.1);
+    let joined = asked.1 <= u64::from(counts.0.min(counts.1));
+    let opened = pair.open(tally)?;
+    let reached = if asked.0 == 4 { u64::from(counts.0) + asked.1 } else { asked.1 };
+    let tests = if joined { total + reached } else { total };
+    hold!(opened == tests * 32, "the row {asked:?} of {counts:?} rows opens with {opened} instead of {tests} row tests");
+    hold!(pair.next(0, tally)? == 32, "the row {asked:?} of {counts:?} rows has no set");
+    let got = &pair.lent().result.slice()[..5];
+    hold!(got == [key[0], key[1], 0, 0, 0], "the row {asked:?} of {counts:?} rows gives {got:x?} instead of {key:x?}");
+    hold!(pair.lent().padded.slice()[0] == asked.1 + 1, "the row {asked:?} of {counts:?} rows has another padded row");
+    hold!(pair.next(2, tally)? == 96, "the row {asked:?} of {counts:?} rows is not at work");
+    Ok(())
+}
+
+/// Which words a search of long keys takes its bits from, and what it compares: a record is filed where the bit says, behind records that differ in
+/// one word or in a spare bit alone, which a look passes. Table 5 has one row, which joins the first of table 4 alone.
+fn long_search(random: &mut Random, tally: &mut Tally, passed: Key) -> Result<(), String> {
+    let tables = make::long_pair(300, 1);
+    let total = 301;
+    let mut lending = Lending::of(random, &tables, Asked::EverySet, 4);
+    lending.set_key(0, Key::of(1 << 48, 1));
+    lending.set_key(1, passed);
+    for record in 0..2 {
+        let next = if record == 0 { 2 } else { 0 };
+        lending.left.slice_mut()[record] = next;
+        lending.right.slice_mut()[record] = next;
+    }
+    lending.record.slice_mut()[..RECORD].copy_from_slice(&[2, 1, 255]);
+    let mut pair = Pair::of(lending);
+    hold!(pair.next(1, tally)? == 96, "a search past {passed:x?} does not go on");
+    let lent = pair.lent();
+    let (record, looks) = (lent.stream_record().expect("a record"), lent.result.slice()[4]);
+    let there = passed == Key::of(256 << 48, 0);
+    hold!(looks == 2 && record.found == if there { 2 } else { 3 } && record.next_row == 256, "a search past {passed:x?} gives {record:?}, {looks} looks");
+    hold!(there || lent.key(2) == Key::of(256 << 48, 0), "a search past {passed:x?} files {:x?}", lent.key(2));
+    hold!(there || lent.left.slice()[1] == 3 && lent.right.slice()[1] == 0, "a search past {passed:x?} files on the other side");
+    hold!(total == lent.total(), "{total} rows");
+    Ok(())
+}
+
+/// A search that ends at a depth: a chain of records with other keys, one for each look, on both sides alike. The key is filed on the side of its bit.
+/// At depth d that is bit d mod 12 of table d / 12's row; look 12n + 1 is the last, and finds the key or none.
+fn deep_search(random: &mut Random, tally: &mut Tally, row: u16, depth: usize, there: bool) -> Result<(), String> {
+    let tables = make::long_pair(4095, 4095);
+    let mut lending = Lending::of(random, &tables, Asked::EverySet, depth + 2);
+    let first = if row == 1 { 2 } else { 1 };
+    let sought = Key::of(u64::from(row) << 48, u64::from(row));
+    for record in 0..=depth {
+        let link = if record < depth { record as u16 + 2 } else { 0 };
+        lending.set_key(record, if record == depth && there { sought } else { Key::of(first << 48, first) });
+        (lending.left.slice_mut()[record], lending.right.slice_mut()[record]) = (link, link);
+    }
+    lending.record.slice_mut()[..RECORD].copy_from_slice(&[depth as u64 + 1, 1, u64::from(row) - 1]);
+    let mut pair = Pair::of(lending);
+    let answer = pair.next(1, tally)?;
+    let lent = pair.lent();
+    let right = (depth / 12 == 4 || depth / 12 == 5) && row >> (depth % 12) & 1 == 1;
+    let wanted = if depth == 96 && !there { (14, 0, 0, 0) } else if there { (96, depth as u64 + 1, 0, 0) } else { (96, depth as u64 + 1, 1 - u16::from(right), u16::from(right)) };
+    let side = |links: &Lent<u16>| if links.slice()[depth] == 0 { 0 } else { 1 };
+    let got = (answer, lent.result.slice()[4], side(&lent.left), side(&lent.right));
+    hold!(got == wanted, "a search for row {row} that ends at depth {depth} gives {got:?} instead of {wanted:?}");
+    Ok(())
+}
+
+/// A record's key with one bit more, in a store that is otherwise good: handed out, and tried on.
+/// A spare bit names a missing row in both.
+fn spare_edge(random: &mut Random, tally: &mut Tally, key: Key, answers: [u64; 2]) -> Result<(), String> {
+    let tables = make::long_pair(300, 256);
+    for (record, answer) in [([1, 0, 556], answers[0]), ([1, 1, 0], answers[1])] {
+        let mut lending = Lending::of(random, &tables, Asked::EverySet, 2);
+        lending.set_key(0, key);
+        (lending.left.slice_mut()[0], lending.right.slice_mut()[0]) = (0, 0);
+        lending.record.slice_mut()[..RECORD].copy_from_slice(&record);
+        let mut pair = Pair::of(lending);
+        let got = pair.next(1, tally)?;
+        hold!(got == answer, "a record of key {key:x?} with {record:?} gives {got} instead of {answer}");
+    }
+    Ok(())
+}
+
+/// The edges of long tables: row numbers of 255, 256 and 4,095 in both words, spare bits in records, and searches.
+/// Table 4 is the last of the first word, table 5 the first of the second.
+fn long_edges(random: &mut Random, tally: &mut Tally) {
+    let both = (4095, 4095);
+    let rows: [((u16, u16), (u64, u64), [u64; 2]); 9] = [
+        (both, (4, 1), [1 << 48, 1]),
+        (both, (4, 255), [255 << 48, 255]),
+        (both, (4, 256), [256 << 48, 256]),
+        (both, (4, 4095), [0x0fff_0000_0000_0000, 0xfff]),
+        (both, (5, 4095), [0x0fff_0000_0000_0000, 0xfff]),
+        ((4095, 256), (5, 256), [0x0100_0000_0000_0000, 0x100]),
+        ((4095, 256), (4, 4095), [0x0fff_0000_0000_0000, 0]),
+        ((256, 4095), (5, 4095), [0, 0xfff]),
+        ((256, 4095), (5, 257), [0, 0x101]),
+    ];
+    for (counts, asked, key) in rows {
+        let result = long_row(random, tally, counts, asked, key);
+        tally.compare(result);
+    }
+    let near = Key::of(256 << 48, 0);
+    let others = [near, Key::of(256 << 48, 1), Key::of(0, 0), Key::of(256 << 48 | 1 << 60, 0), Key::of(256 << 48 | 1 << 63, 0), Key::of(256 << 48, 1 << 36)];
+    for passed in others.into_iter().chain([Key::of(256 << 48, 1 << 63), Key::of(257 << 48, 0), Key::of(0, 256 << 48)]) {
+        let result = long_search(random, tally, passed);
+        tally.compare(result);
+    }
+    for depth in 0..97 {
+        for row in [0b1010_0110_1101, 4095] {
+            let result = deep_search(random, tally, row, depth, false).and_then(|_| deep_search(random, tally, row, depth, true));
+            tally.compare(result);
+        }
+    }
+    let good = Key::of(256 << 48, 256);
+    let result = spare_edge(random, tally, good, [32, 96]);
+    tally.compare(result);
+    let spare = (60..64).map(|bit| Key::of(good.low | 1 << bit, good.high)).chain((36..64).map(|bit| Key::of(good.low, good.high | 1 << bit)));
+    let missing = [Key::of(301 << 48, 0), Key::of(0, 257), Key::of(4095 << 48, 256), Key::of(1 << 36, 0), Key::of(good.low, 1 << 12), Key::of(good.high, good.low)];
+    for key in spare.chain(missing).collect::<Vec<_>>() {
+        let result = spare_edge(random, tally, key, [14, 14]);
         tally.compare(result);
     }
 }
@@ -445,6 +600,7 @@ pub fn compare(cases: u64, seed: u64, least: u64) -> bool {
     }
     edges(&mut random, &mut tally);
     row_edges(&mut random, &mut tally);
+    long_edges(&mut random, &mut tally);
     for case in 0..cases {
         let result = compare_one(&mut random, &mut tally).map_err(|words| format!("case {case}: {words}"));
         tally.compare(result);
@@ -456,6 +612,8 @@ pub fn compare(cases: u64, seed: u64, least: u64) -> bool {
     tally.table("open_holding", &OPEN_HOLDING, least);
     tally.table("next_holding", &next, least);
     tally.table("covers", &COVERS, least);
+    tally.table("next keys", &KEYS, least);
+    tally.table("next_holding keys", &KEYS, least);
     let at_work = ["11", "12", "13", "14"];
     let later: [(&str, &[&str]); 4] = [("open", &["12"]), ("next", &at_work), ("open_holding", &["12", "19"]), ("next_holding", &at_work)];
     for (call, later) in later {
