@@ -47,7 +47,7 @@ fn budget(random: &mut Random, total: u64) -> u64 {
 /// Tables for a stream: small ones that join, some without rows, some as images have them.
 /// Now and then a cell is 2^63 or more, or rows repeat: stream calls take any cells.
 fn some_tables(random: &mut Random) -> Tables {
-    if random.below(70) == 0 {
+    if random.percent(4) {
         return make::long_tables(random);
     }
     let most = random.pick(&[100, 400, 400, 3000]);

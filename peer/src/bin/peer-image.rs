@@ -240,7 +240,7 @@ fn main() {
     tally.table("load", &["0", "1", "2", "3", "4", "5", "6", "7", "8", "9", "17", "20", "21", "31"], least);
     for call in ["check", "load"] {
         tally.table(&format!("{call} version 1"), &["0", "1", "2", "4", "5", "6", "7", "8", "9", "17"], least);
-        tally.table(&format!("{call} version 2"), &["0", "1", "2", "4", "5", "6", "7", "8", "9", "17", "20", "21"], least / 2);
+        tally.table(&format!("{call} version 2"), &["0", "1", "2", "4", "5", "6", "7", "8", "9", "17", "20", "21"], least / 4);
     }
     tally.table("counts", &["1", "2", "17"], least);
     tally.table("count", &[], least);
