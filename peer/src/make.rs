@@ -581,8 +581,8 @@ pub fn stream_tables(random: &mut Random, most: usize) -> Tables {
 /// Long tables for a stream: one of above 255 rows among up to eight, most of them short, that share an attribute; the first often joins a late row of it.
 /// Codes of short tables are those of rows about 256 and at the ends of the long one.
 pub fn long_tables(random: &mut Random) -> Tables {
-    let n = random.range(1, 8);
-    let least = random.pick(&[0, n / 2]);
+    let n = random.pick(&[1, 2, 3, 4, 5, 6, 6, 7, 7, 8, 8]);
+    let least = if n > 5 && random.percent(70) { 5 } else { 0 };
     let long = random.range(least, n - 1);
     let count = random.pick(&[256, 256, 257, 300, 511, 512, 4095]);
     let mut catalogue = Catalogue { m: 2, n: n as u64, ..Catalogue::default() };
