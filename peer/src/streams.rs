@@ -387,6 +387,28 @@ fn longest_store(random: &mut Random, tally: &mut Tally, asked: Asked) -> Result
     Ok(())
 }
 
+/// Which of the four slices of a store is the shortest does not matter: it counts. Two rows of one table are two sets.
+/// Without a record open is refused; with one the second set finds no room; with two there are both.
+fn shortest_slice(random: &mut Random, tally: &mut Tally, asked: Asked, slice: usize) -> Result<(), String> {
+    for (shortest, answers) in [(0, &[12][..]), (1, &[32, 12]), (2, &[32, 32, 64])] {
+        let counts = if asked == Asked::EverySet { &[2][..] } else { &[1, 2] };
+        let mut lending = Lending::of(random, &make::star(counts), asked, 3);
+        match slice {
+            0 => lending.low = Lent::pattern(shortest, random),
+            1 => lending.high = Lent::pattern(shortest, random),
+            2 => lending.left = Lent::pattern(shortest, random),
+            _ => lending.right = Lent::pattern(shortest, random),
+        }
+        let mut pair = Pair::of(lending);
+        let opened = pair.open(tally)? % 32;
+        for &answer in answers {
+            let got = if shortest == 0 { opened } else { pair.next(u64::MAX, tally)? };
+            hold!(got == answer, "a store whose slice {slice} has {shortest} elements gives {got} instead of {answer}");
+        }
+    }
+    Ok(())
+}
+
 /// Sets written down by hand: each is its row numbers, lowest table first, and its padded row.
 /// They stand in the order of handing out.
 type Sets = &'static [(&'static [u16], &'static [u64])];
@@ -438,6 +460,12 @@ fn edges(random: &mut Random, tally: &mut Tally) {
     for asked in [Asked::EverySet, Asked::Holding { table: 0, row: 2 }] {
         let result = longest_store(random, tally, asked);
         tally.compare(result);
+    }
+    for asked in [Asked::EverySet, Asked::Holding { table: 0, row: 1 }] {
+        for slice in 0..4 {
+            let result = shortest_slice(random, tally, asked, slice);
+            tally.compare(result);
+        }
     }
 }
 
