@@ -15,7 +15,7 @@ enum { TICK = 1 << 0, HEIGHT = 1 << 1, SENSOR = 1 << 2 };
 #define VALUE(x) ((uint64_t)(x) + 1)
 
 /* Three attributes and three tables; eight schemes and eight row counts, of which those behind the third are ignored. */
-static const uint64_t catalogue[18] = {
+static const uint64_t given[18] = {
     3, 3,
     TICK | HEIGHT, HEIGHT | SENSOR, TICK | SENSOR, 0, 0, 0, 0, 0,
     2, 2, 2, 0, 0, 0, 0, 0,
@@ -33,8 +33,11 @@ static const uint64_t cells[] = {
 
 int main(void)
 {
+    uint64_t catalogue[34];
     uint8_t image[256];
-    uint64_t answer = harbour_write(catalogue, 18, cells, sizeof cells / sizeof cells[0], image, sizeof image);
+    uint64_t answer = harbour_make_catalogue(given, 18, catalogue, 34);
+    if (answer == 0)
+        answer = harbour_write(catalogue, 34, cells, sizeof cells / sizeof cells[0], image, sizeof image);
     if (answer % 32 != 0) {
         fprintf(stderr, "refused %" PRIu64 "\n", answer % 32);
         return 1;

@@ -6,17 +6,23 @@ use crate::refusal::{Fault, Refusal};
 /// The lent cell slice may set a lower bound on the cells.
 pub const ATTRIBUTES: u64 = 63;
 pub const TABLES: u64 = 8;
-pub const ROWS: u64 = 255;
+pub const ROWS: u64 = 4095;
 pub const CELLS: usize = 8192;
 
-/// What the tables look like, without their cells.
-/// Entries from n on are ignored when read and are 0 after a load.
+/// The most rows in a table of a version 1 image.
+/// Where a table has more, the image's version is 2 (request #110).
+pub const FIRST_ROWS: u64 = 255;
+
+/// What the tables look like, without their cells; where the cells of each begin, and the mask of the tables that touch it (request #106).
+/// Bit u of table t's mask stands for table u. Entries from n on are ignored when read and are 0 after a load.
 #[derive(Clone, Copy, Debug, Default, PartialEq, Eq)]
 pub struct Catalogue {
     pub m: u64,
     pub n: u64,
     pub schemes: [u64; 8],
     pub rows: [u16; 8],
+    pub places: [u16; 8],
+    pub touching: [u16; 8],
 }
 
 impl Catalogue {
@@ -35,7 +41,44 @@ impl Catalogue {
     /// The cells of all tables together.
     /// n is in range.
     pub fn cells(&self) -> usize {
-        (0..self.n as usize).map(|table| self.size(table)).sum()
+        self.first_cell(self.n as usize)
+    }
+
+    /// Where a table's first cell lies, or would lie if it had rows.
+    /// It is worked out from the tables before it; nothing that is stored is looked at.
+    pub fn first_cell(&self, table: usize) -> usize {
+        (0..table).map(|before| self.size(before)).sum()
+    }
+
+    /// The mask of the tables below n that share an attribute with a table.
+    /// A table never touches itself.
+    pub fn neighbours(&self, table: usize) -> u16 {
+        let touch = |&other: &usize| other != table && self.schemes[other] & self.schemes[table] != 0;
+        (0..self.n as usize).filter(touch).map(|other| 1 << other).sum()
+    }
+
+    /// Is what is stored of a table what is worked out?
+    /// n is in range, and the table below it.
+    pub fn stored_right(&self, table: usize) -> bool {
+        usize::from(self.places[table]) == self.first_cell(table) && self.touching[table] == self.neighbours(table)
+    }
+
+    /// The version of the tables' image: 2 exactly when some table has more rows than version 1 allows.
+    /// n is at most 8.
+    pub fn version(&self) -> u64 {
+        let long = self.rows[..self.n as usize].iter().any(|&rows| u64::from(rows) > FIRST_ROWS);
+        if long { 2 } else { 1 }
+    }
+
+    /// The same catalogue with places and masks worked out below n, and zeros from n on.
+    /// n is at most 8. A place above 65,535 is none of a catalogue that passes the check.
+    pub fn filled(&self) -> Catalogue {
+        let mut filled = Catalogue { places: [0; 8], touching: [0; 8], ..*self };
+        for table in 0..self.n as usize {
+            filled.places[table] = self.first_cell(table).min(65_535) as u16;
+            filled.touching[table] = self.neighbours(table);
+        }
+        filled
     }
 }
 
@@ -59,7 +102,7 @@ fn scheme_fits(scheme: u64, m: u64) -> bool {
 
 /// Checks m, then n.
 /// Both give 4.
-pub fn check_range(catalogue: &Catalogue) -> Result<(), Refusal> {
+fn check_range(catalogue: &Catalogue) -> Result<(), Refusal> {
     if !attributes_fit(catalogue.m) || !tables_fit(catalogue.n) {
         return Err(Refusal::Range);
     }
@@ -68,7 +111,7 @@ pub fn check_range(catalogue: &Catalogue) -> Result<(), Refusal> {
 
 /// Checks one table's entries: 5, then 6, then 8.
 /// `before` counts the cells of the tables before it; `lent` is the cell slice's length.
-pub fn check_table(catalogue: &Catalogue, table: usize, before: usize, lent: usize) -> Result<(), Refusal> {
+fn check_table(catalogue: &Catalogue, table: usize, before: usize, lent: usize) -> Result<(), Refusal> {
     if !scheme_fits(catalogue.schemes[table], catalogue.m) {
         return Err(Refusal::Scheme);
     }
@@ -81,9 +124,9 @@ pub fn check_table(catalogue: &Catalogue, table: usize, before: usize, lent: usi
     Ok(())
 }
 
-/// Checks a whole catalogue as open does: 4, then table by table 5, 6, 8.
-/// No cell is looked at.
-pub fn check_catalogue(catalogue: &Catalogue, lent: usize) -> Result<(), Refusal> {
+/// Checks what a catalogue says of its tables: 4, then table by table 5, 6, 8.
+/// No cell is looked at, and nothing that is stored of places and masks.
+pub fn check_shape(catalogue: &Catalogue, lent: usize) -> Result<(), Refusal> {
     check_range(catalogue)?;
     let mut before = 0;
     for table in 0..catalogue.n as usize {
@@ -91,6 +134,24 @@ pub fn check_catalogue(catalogue: &Catalogue, lent: usize) -> Result<(), Refusal
         before += catalogue.size(table);
     }
     Ok(())
+}
+
+/// Checks a whole catalogue, wherever one is lent: 4; table by table 5, 6, 8; then 16 if a stored place or mask below n is not the one worked out.
+/// No cell is looked at.
+pub fn check_catalogue(catalogue: &Catalogue, lent: usize) -> Result<(), Refusal> {
+    check_shape(catalogue, lent)?;
+    if (0..catalogue.n as usize).all(|table| catalogue.stored_right(table)) {
+        Ok(())
+    } else {
+        Err(Refusal::Stored)
+    }
+}
+
+/// The catalogue of tables made by hand, places and masks filled, or the first of 4, 5, 6, 8 with room for 8,192 cells.
+/// Schemes and row counts from n on stay as they are given.
+pub fn made(given: &Catalogue) -> Result<Catalogue, Refusal> {
+    check_shape(given, CELLS)?;
+    Ok(given.filled())
 }
 
 /// A reader that walks over an image number by number.
@@ -123,13 +184,25 @@ impl Reader<'_> {
     }
 }
 
+/// The most rows of a table that a version allows.
+/// The version is 1 or 2.
+fn most_rows(version: u64) -> u64 {
+    if version == 1 { FIRST_ROWS } else { ROWS }
+}
+
+/// Is a row refused where version 2 is read or would be written?
+/// It is if all its cells are null (request #111).
+fn all_null(row: &[u64]) -> bool {
+    row.iter().all(|&code| code == 0)
+}
+
 /// Reads an image with room for so many cells: the catalogue and the cells, or the first fault in reading order.
-/// Nothing lent is touched here.
+/// Nothing lent is touched here. 20 comes after all else: the version was 2 and need not have been.
 pub fn read(image: &[u8], lent: usize) -> Result<(Catalogue, Vec<u64>), Fault> {
     let mut reader = Reader { image, place: 0 };
     let mut catalogue = Catalogue::default();
     let mut cells = Vec::new();
-    reader.meant(Refusal::Version, |version| version == 1)?;
+    let version = reader.meant(Refusal::Version, |version| version == 1 || version == 2)?;
     let m = reader.meant(Refusal::Range, attributes_fit)?;
     let n = reader.meant(Refusal::Range, tables_fit)?;
     catalogue.m = m;
@@ -137,7 +210,7 @@ pub fn read(image: &[u8], lent: usize) -> Result<(Catalogue, Vec<u64>), Fault> {
     for table in 0..n as usize {
         catalogue.schemes[table] = reader.meant(Refusal::Scheme, |scheme| scheme_fits(scheme, m))?;
         let place = reader.place;
-        catalogue.rows[table] = reader.meant(Refusal::Rows, |rows| rows <= ROWS)? as u16;
+        catalogue.rows[table] = reader.meant(Refusal::Rows, |rows| rows <= most_rows(version))? as u16;
         if cells.len() + catalogue.size(table) > lent.min(CELLS) {
             return Err(Fault::at(place, Refusal::Cells));
         }
@@ -147,6 +220,9 @@ pub fn read(image: &[u8], lent: usize) -> Result<(Catalogue, Vec<u64>), Fault> {
             let mut row = Vec::new();
             for _ in 0..catalogue.width(table) {
                 row.push(reader.number()?);
+            }
+            if version == 2 && all_null(&row) {
+                return Err(Fault::at(place, Refusal::NullRow));
             }
             if previous.is_some_and(|previous| previous >= row) {
                 return Err(Fault::at(place, Refusal::Order));
@@ -158,7 +234,10 @@ pub fn read(image: &[u8], lent: usize) -> Result<(Catalogue, Vec<u64>), Fault> {
     if reader.place < image.len() {
         return Err(Fault::at(reader.place, Refusal::Surplus));
     }
-    Ok((catalogue, cells))
+    if version != catalogue.version() {
+        return Err(Fault::at(0, Refusal::NeedlessVersion));
+    }
+    Ok((catalogue.filled(), cells))
 }
 
 /// Loads an image into the lent cells.
@@ -169,17 +248,17 @@ pub fn load(image: &[u8], lent: &mut [u64]) -> Result<Catalogue, Fault> {
     Ok(catalogue)
 }
 
-/// The image of the tables, or the first fault in image order: 4; per table 5, 6, 8 and then per row 10, 7.
-/// A table's rows are checked before the next table's entries.
+/// The image of the tables, or the first fault: 4; table by table 5, 6, 8; 16; then the rows of all tables, each 10, then 21 in version 2, then 7.
+/// A later table's entries are checked before an earlier table's rows (request #106).
 pub fn form(catalogue: &Catalogue, cells: &[u64]) -> Result<Vec<u8>, Refusal> {
     let mut image = Vec::new();
-    check_range(catalogue)?;
-    for number in [1, catalogue.m, catalogue.n] {
+    check_catalogue(catalogue, cells.len())?;
+    let version = catalogue.version();
+    for number in [version, catalogue.m, catalogue.n] {
         numbers::encode(number, &mut image);
     }
     let mut place = 0;
     for table in 0..catalogue.n as usize {
-        check_table(catalogue, table, place, cells.len())?;
         numbers::encode(catalogue.schemes[table], &mut image);
         numbers::encode(u64::from(catalogue.rows[table]), &mut image);
         let mut previous: Option<&[u64]> = None;
@@ -187,6 +266,9 @@ pub fn form(catalogue: &Catalogue, cells: &[u64]) -> Result<Vec<u8>, Refusal> {
             let row = &cells[place..place + catalogue.width(table)];
             if row.iter().any(|&code| code >= 1 << 63) {
                 return Err(Refusal::Code);
+            }
+            if version == 2 && all_null(row) {
+                return Err(Refusal::NullRow);
             }
             if previous.is_some_and(|previous| previous >= row) {
                 return Err(Refusal::Order);

@@ -24,12 +24,15 @@ pub mod library;
 pub mod listing;
 #[cfg(feature = "stream")]
 pub mod lists;
+#[cfg(feature = "stream")]
+pub mod longkeys;
 pub mod make;
 pub mod numbers;
 pub mod random;
 pub mod refusal;
 pub mod rule;
 pub mod selfcheck;
+pub mod stored;
 #[cfg(feature = "stream")]
 pub mod streams;
 #[cfg(feature = "stream")]

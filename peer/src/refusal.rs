@@ -18,8 +18,11 @@ pub enum Refusal {
     Full = 12,
     Record = 13,
     Damaged = 14,
+    Stored = 16,
     Endless = 17,
     NoRow = 19,
+    NeedlessVersion = 20,
+    NullRow = 21,
 }
 
 impl Refusal {

@@ -1,11 +1,11 @@
 //! The stream's rule with every shortcut we know, for the benchmark: what a hurried Rust programmer would run in its stead.
 //! The answers and the counts are those of `rule`; the benchmark compares them before it times anything.
-use crate::image::{check_catalogue, Catalogue};
+use crate::image::{check_shape, Catalogue};
 use crate::refusal::Refusal;
-use crate::rule::{misfit, search, set_of, Answer, Counts, Ending, Outcome, Record, Stop, Store};
+use crate::rule::{misfit, set_of, Answer, Counts, Ending, Key, Outcome, Record, Stop, Store, ROW_BITS};
 
-/// What is worked out once in a call: where tables begin, how wide they are, which tables touch, how many rows lie before each table and up to its end,
-/// and which tables have a first column that does not fall. The row walk reads nothing else of the catalogue.
+/// What is known once in a call: where tables begin and which tables touch, as the catalogue stores it, and what is worked out: how wide tables are, how
+/// many rows lie before each and up to its end, and which have a first column that does not fall. The row walk reads nothing else of the catalogue.
 struct Plan<'a> {
     cells: &'a [u64],
     n: usize,
@@ -13,43 +13,56 @@ struct Plan<'a> {
     total: u64,
     schemes: [u64; 8],
     rows: [usize; 8],
-    starts: [usize; 8],
+    starts: [u16; 8],
     widths: [usize; 8],
-    touching: [u8; 8],
+    touching: [u16; 8],
     before: [u64; 9],
     rising: u8,
 }
 
-/// A set under way: its row numbers, its tables as a mask, and its merged row.
+/// A set under way: its row numbers, its tables as a mask, those that touch one of them as another, and its merged row.
 /// An attribute on which members disagree, or one is null, has 0 there.
 struct Merged {
-    key: u64,
-    present: u8,
+    words: [u64; 2],
+    present: u16,
+    touched: u16,
     attributes: u64,
     codes: [u64; 64],
 }
 
+impl Merged {
+    /// The set's key.
+    fn key(&self) -> Key {
+        Key::of(self.words[0], self.words[1])
+    }
+}
+
 impl<'a> Plan<'a> {
-    /// Checks the catalogue as open does and works the rest out, for at most so many trials.
+    /// Checks the catalogue as open does, each pair of tables once, and works the rest out, for at most so many trials.
     /// Columns are looked at only where there are trials enough to pay for it.
     fn checked(catalogue: &Catalogue, cells: &'a [u64], trials: u64) -> Result<Plan<'a>, Refusal> {
-        check_catalogue(catalogue, cells.len())?;
+        check_shape(catalogue, cells.len())?;
         let n = catalogue.n as usize;
         let mut plan = Plan {
-            cells, n, m: catalogue.m as usize, total: 0, schemes: catalogue.schemes, rows: [0; 8], starts: [0; 8], widths: [0; 8], touching: [0; 8],
-            before: [0; 9], rising: 0,
+            cells, n, m: catalogue.m as usize, total: 0, schemes: catalogue.schemes, rows: [0; 8], starts: catalogue.places, widths: [0; 8],
+            touching: catalogue.touching, before: [0; 9], rising: 0,
         };
-        let mut place = 0;
+        let (mut place, mut touching, mut right) = (0, [0; 8], true);
         for table in 0..n {
             plan.rows[table] = usize::from(catalogue.rows[table]);
             plan.widths[table] = catalogue.width(table);
-            plan.starts[table] = place;
-            place += catalogue.size(table);
+            right &= usize::from(plan.starts[table]) == place;
+            place += plan.widths[table] * plan.rows[table];
             plan.total += plan.rows[table] as u64;
             plan.before[table + 1] = plan.total;
-            for other in 0..n {
-                plan.touching[table] |= u8::from(plan.schemes[table] & plan.schemes[other] != 0) << other;
+            for other in 0..table {
+                let touch = u16::from(plan.schemes[table] & plan.schemes[other] != 0);
+                touching[table] |= touch << other;
+                touching[other] |= touch << table;
             }
+        }
+        if !right || plan.touching[..n] != touching[..n] {
+            return Err(Refusal::Stored);
         }
         if trials >= 16 && trials >= plan.total / 16 {
             plan.rising = (0..n).filter(|&table| plan.rises(table)).fold(0, |mask, table| mask | 1 << table);
@@ -59,7 +72,8 @@ impl<'a> Plan<'a> {
 
     /// A table's cells.
     fn table(&self, table: usize) -> &[u64] {
-        &self.cells[self.starts[table]..self.starts[table] + self.widths[table] * self.rows[table]]
+        let start = usize::from(self.starts[table]);
+        &self.cells[start..start + self.widths[table] * self.rows[table]]
     }
 
     /// Does a table's first column not fall?
@@ -92,7 +106,7 @@ impl<'a> Plan<'a> {
 
     /// The cells of a row, numbered from 1.
     fn row(&self, table: usize, row: usize) -> &[u64] {
-        let start = self.starts[table] + (row - 1) * self.widths[table];
+        let start = usize::from(self.starts[table]) + (row - 1) * self.widths[table];
         &self.cells[start..start + self.widths[table]]
     }
 
@@ -105,8 +119,9 @@ impl<'a> Plan<'a> {
             set.codes[attribute] = if !seen || set.codes[attribute] == code { code } else { 0 };
             rest &= rest - 1;
         }
-        set.key |= (row as u64) << (8 * table);
+        set.words[table / 5] |= (row as u64) << (ROW_BITS * (table % 5));
         set.present |= 1 << table;
+        set.touched |= self.touching[table];
         set.attributes |= self.schemes[table];
     }
 
@@ -155,32 +170,28 @@ impl<'a> Plan<'a> {
         cells.chunks_exact(width).position(|row| row[first] == code && fits(row))
     }
 
-    /// Extension. A table that was walked without a fit has none later either, so it is walked once.
+    /// Extension. A table that was walked without a fit has none later either, so it is walked once; one that touches no member is not met.
     /// Rows that are not looked at are counted all the same, by how many lie before the table. `near` is the row to look at first in each.
     fn extend(&self, set: &mut Merged, near: usize) -> u64 {
         let mut tests = 0;
-        let mut open = !set.present & (0xff >> (8 - self.n));
-        'rounds: loop {
-            let mut rest = open;
-            while rest != 0 {
-                let table = rest.trailing_zeros() as usize;
-                rest &= rest - 1;
-                if self.schemes[table] & set.attributes != 0 {
-                    open &= !(1 << table);
-                    if let Some(row) = self.first_fit(set, table, near) {
-                        tests += self.before[table] + row as u64 + 1;
-                        self.add(set, table, row + 1);
-                        continue 'rounds;
-                    }
-                }
+        let mut walked = set.present;
+        loop {
+            let rest = set.touched & !walked;
+            if rest == 0 {
+                return tests + self.total;
             }
-            return tests + self.total;
+            let table = rest.trailing_zeros() as usize;
+            walked |= 1 << table;
+            if let Some(row) = self.first_fit(set, table, near) {
+                tests += self.before[table] + row as u64 + 1;
+                self.add(set, table, row + 1);
+            }
         }
     }
 
     /// A set of one row.
     fn alone(&self, table: usize, row: usize) -> Merged {
-        let mut set = Merged { key: 0, present: 0, attributes: 0, codes: [0; 64] };
+        let mut set = Merged { words: [0; 2], present: 0, touched: 0, attributes: 0, codes: [0; 64] };
         self.add(&mut set, table, row);
         set
     }
@@ -204,30 +215,28 @@ impl<'a> Plan<'a> {
     /// What a trial of a row makes of a set, before it is extended: who stays is a mask of tables, and so is the piece.
     fn turned(&self, rows: &[u16; 8], table: usize, row: usize) -> Merged {
         let mut set = self.alone(table, row);
-        let mut staying = 0u8;
+        let mut staying = 0u16;
         for other in 0..self.n {
             if other != table && rows[other] != 0 && self.fits(&set, other, usize::from(rows[other])) {
                 staying |= 1 << other;
             }
         }
-        let mut touched = self.touching[table] & staying;
-        while touched != 0 {
-            let next = touched.trailing_zeros() as usize;
+        while set.touched & staying != 0 {
+            let next = (set.touched & staying).trailing_zeros() as usize;
             staying &= !(1 << next);
             self.add(&mut set, next, usize::from(rows[next]));
-            touched = (touched | self.touching[next]) & staying;
         }
         set
     }
 
     /// Does a key name a set of rows that are there?
-    fn names(&self, key: u64) -> bool {
+    fn names(&self, key: Key) -> bool {
         let rows = set_of(key);
-        key != 0 && (0..8).all(|table| usize::from(rows[table]) <= self.rows[table])
+        key != Key::default() && key.low >> 60 | key.high >> 36 == 0 && (0..8).all(|table| usize::from(rows[table]) <= self.rows[table])
     }
 
     /// Writes the padded row of a set, the highest table first, so that the lowest has the last word.
-    fn pad(&self, key: u64, padded: &mut [u64]) {
+    fn pad(&self, key: Key, padded: &mut [u64]) {
         padded[..self.m].fill(0);
         let rows = set_of(key);
         for table in (0..self.n).rev().filter(|&table| rows[table] != 0) {
@@ -251,7 +260,7 @@ pub fn open(catalogue: &Catalogue, cells: &[u64], store: &mut Store) -> Result<(
     }
     let mut set = plan.alone(table, 1);
     let row_tests = plan.extend(&mut set, 0);
-    store.fill(0, set.key);
+    store.fill(0, set.key());
     Ok((Record { found: 1, taken: 0, next_row: plan.total }, row_tests))
 }
 
@@ -276,7 +285,7 @@ pub fn next(catalogue: &Catalogue, cells: &[u64], store: &mut Store, record: &mu
     if record.taken == record.found {
         return (Outcome::Answered(Answer::Finished), counts);
     }
-    let key = store.keys[record.taken as usize];
+    let key = store.key(record.taken as usize);
     if !plan.names(key) {
         return (Outcome::Stopped(Stop::KeyHandedOut), counts);
     }
@@ -291,7 +300,7 @@ fn trials(plan: &Plan, store: &mut Store, record: &mut Record, budget: u64, coun
     if budget == 0 {
         return Some(Outcome::Answered(Answer::Working));
     }
-    let key = store.keys[record.taken as usize - 1];
+    let key = store.key(record.taken as usize - 1);
     if !plan.names(key) {
         return Some(Outcome::Stopped(Stop::KeyTriedOn));
     }
@@ -307,7 +316,7 @@ fn trials(plan: &Plan, store: &mut Store, record: &mut Record, budget: u64, coun
         }
         let mut set = plan.turned(&rows, table, row + 1);
         let row_tests = plan.extend(&mut set, row);
-        match file(plan, store, record, set.key) {
+        match file(plan, store, record, set.key()) {
             Err(stop) => return Some(Outcome::Stopped(stop)),
             Ok(looks) => counts.looks += looks,
         }
@@ -322,8 +331,33 @@ fn trials(plan: &Plan, store: &mut Store, record: &mut Record, budget: u64, coun
     None
 }
 
+/// Searches as `rule::search`, with the key as one number whose lowest bit is taken at each look and then dropped.
+fn search(store: &Store, found: u64, tables: usize, sought: Key) -> Result<(Ending, u64), Stop> {
+    let mut bits = u128::from(sought.high) << 60 | u128::from(sought.low);
+    let (last, mut record) = ((ROW_BITS * tables) as u64 + 1, 0);
+    for look in 1..=last {
+        if store.low[record] == sought.low && store.high[record] == sought.high {
+            return Ok((Ending::There, look));
+        }
+        if look == last {
+            break;
+        }
+        let bit = bits as u64 & 1;
+        bits >>= 1;
+        let link = if bit == 0 { store.left[record] } else { store.right[record] };
+        if link == 0 {
+            return Ok((Ending::Empty { record, bit }, look));
+        }
+        if u64::from(link) > found {
+            return Err(Stop::BadLink);
+        }
+        record = usize::from(link) - 1;
+    }
+    Err(Stop::TooDeep)
+}
+
 /// Searches for a key and files it where it is absent; the looks.
-fn file(plan: &Plan, store: &mut Store, record: &mut Record, sought: u64) -> Result<u64, Stop> {
+fn file(plan: &Plan, store: &mut Store, record: &mut Record, sought: Key) -> Result<u64, Stop> {
     let (ending, looks) = search(store, record.found, plan.n, sought)?;
     if let Ending::Empty { record: last, bit } = ending {
         let place = record.found as usize;

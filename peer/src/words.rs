@@ -1,27 +1,43 @@
 //! The peer's functions in the form of the C calls: over slices of words, with one number as the answer.
 use crate::image::{self, Catalogue};
-use crate::rule::{self, Answer, Asked, Counts, Outcome, Record, Store};
+use crate::rule::{self, Answer, Asked, Counts, Key, Outcome, Record, Store};
 
-/// The words of a catalogue, a record, a record that names a row, and a result.
+/// The words of a catalogue, of what is said of tables made by hand, of a record, a record that names a row, and a result.
 /// Longer slices are lent too; the words behind stay.
-pub const CATALOGUE: usize = 18;
+pub const CATALOGUE: usize = 34;
+pub const GIVEN: usize = 18;
 pub const RECORD: usize = 3;
 pub const HOLDING: usize = 5;
-pub const RESULT: usize = 4;
+pub const RESULT: usize = 5;
 
 /// The answer when a word slice is too short.
 /// Nothing is then changed.
 pub const SHORT_SLICE: u64 = 31;
 
-/// A catalogue from its words: m, n, eight schemes, eight row counts.
-/// A row count above 65,535 counts as 65,535.
+/// Where each eight of a catalogue's words begin.
+/// m and n stand before them.
+pub const SCHEMES: usize = 2;
+pub const ROWS: usize = 10;
+pub const PLACES: usize = 18;
+pub const MASKS: usize = 26;
+
+/// Eight words as numbers of 16 bits.
+/// One above 65,535 counts as 65,535.
+fn shorts(words: &[u64], from: usize) -> [u16; 8] {
+    std::array::from_fn(|table| words[from + table].min(65_535) as u16)
+}
+
+/// What is said of tables made by hand: m, n, eight schemes, eight row counts.
+/// Places and masks are still zeros.
+pub fn given_of(words: &[u64]) -> Catalogue {
+    let schemes = std::array::from_fn(|table| words[SCHEMES + table]);
+    Catalogue { m: words[0], n: words[1], schemes, rows: shorts(words, ROWS), ..Catalogue::default() }
+}
+
+/// A catalogue from its words: the same, then eight places and eight masks.
+/// Nothing is checked here.
 pub fn catalogue_of(words: &[u64]) -> Catalogue {
-    let mut catalogue = Catalogue { m: words[0], n: words[1], ..Catalogue::default() };
-    for table in 0..8 {
-        catalogue.schemes[table] = words[2 + table];
-        catalogue.rows[table] = words[10 + table].min(65_535) as u16;
-    }
-    catalogue
+    Catalogue { places: shorts(words, PLACES), touching: shorts(words, MASKS), ..given_of(words) }
 }
 
 /// The words of a catalogue.
@@ -31,8 +47,10 @@ pub fn words_of(catalogue: &Catalogue) -> [u64; CATALOGUE] {
     words[0] = catalogue.m;
     words[1] = catalogue.n;
     for table in 0..8 {
-        words[2 + table] = catalogue.schemes[table];
-        words[10 + table] = u64::from(catalogue.rows[table]);
+        words[SCHEMES + table] = catalogue.schemes[table];
+        words[ROWS + table] = u64::from(catalogue.rows[table]);
+        words[PLACES + table] = u64::from(catalogue.places[table]);
+        words[MASKS + table] = u64::from(catalogue.touching[table]);
     }
     words
 }
@@ -60,6 +78,20 @@ pub fn load(image: &[u8], cells: &mut [u64], catalogue: &mut [u64], looked: &mut
         *word = count;
     }
     catalogue[..CATALOGUE].copy_from_slice(&words_of(&loaded));
+    answer
+}
+
+/// Makes the catalogue of tables made by hand: 0, or the refusal with a catalogue of zeros.
+/// Words behind the catalogue stay.
+pub fn make_catalogue(given: &[u64], catalogue: &mut [u64]) -> u64 {
+    if given.len() < GIVEN || catalogue.len() < CATALOGUE {
+        return SHORT_SLICE;
+    }
+    let (answer, made) = match image::made(&given_of(given)) {
+        Ok(made) => (0, made),
+        Err(refusal) => (refusal.number(), Catalogue::default()),
+    };
+    catalogue[..CATALOGUE].copy_from_slice(&words_of(&made));
     answer
 }
 
@@ -124,7 +156,7 @@ pub struct Call<'a> {
     pub result: &'a mut [u64],
 }
 
-/// Stream call: the answer, the moved record, and key, trials, row tests and looks in the result.
+/// Stream call: the answer, the moved record, and the key's two words, trials, row tests and looks in the result.
 /// The record has so many words, RECORD or HOLDING. The outcome beside the answer is for counting only; a short slice has none.
 pub fn next(needed: usize, catalogue: &[u64], cells: &[u64], store: &mut Store, call: Call) -> (u64, Option<Outcome>) {
     if catalogue.len() < CATALOGUE || call.record.len() < needed || call.result.len() < RESULT {
@@ -134,9 +166,9 @@ pub fn next(needed: usize, catalogue: &[u64], cells: &[u64], store: &mut Store, 
     let mut record = Record { found: call.record[0], taken: call.record[1], next_row: call.record[2] };
     let (outcome, counts) = rule::next_for(asked, &catalogue_of(catalogue), cells, store, &mut record, call.budget, call.padded);
     put_record(&record, call.record);
-    let key = if let Outcome::Answered(Answer::Set(key)) = outcome { key } else { 0 };
+    let key = if let Outcome::Answered(Answer::Set(key)) = outcome { key } else { Key::default() };
     let Counts { trials, row_tests, looks } = counts;
-    call.result[..RESULT].copy_from_slice(&[key, trials, row_tests, looks]);
+    call.result[..RESULT].copy_from_slice(&[key.low, key.high, trials, row_tests, looks]);
     (answer_of(&outcome), Some(outcome))
 }
 
