@@ -8,6 +8,7 @@ use Rattle.laws.specs.Lists.{put, tab}
 use Rattle.words.specs.Words.{bitOf}
 use Rattle.numbers.specs.Numbers.{decode}
 use Rattle.keys.specs.Keys.{rowOf, keyOf, rowsIn}
+use Rattle.keys.specs.TwoWords.{joined, firstWord, secondWord}
 use Rattle.tables.specs.Sizes.{mostCells}
 use Rattle.tables.specs.Sample.{sampleBytes, three, threeCells}
 use Rattle.tables.specs.Catalogues.{firstCell, touch, touchingBelow, forTables, rowStart, rowsBefore}
@@ -47,7 +48,7 @@ sample-loads lent after r h l =
 -- ---- the list
 
 pub edges : Edges
-unfolding callsOn saysIn handed runOf call callFault work unfit dueOr handOut trialOn offered placed answerOf storeAfter added Store.named searchOf Store.walk linkOf openingFor openFault begun catalogueFault shapeFault storedFault misstored touchingBelow touch forTables sizeFault tablesFault tableFault badScheme countFault firstCell rowStart rowsBefore named missing beyond rowsIn rowOf keyOf filed bitOf ones onesIn touchesIn fitsIn sharing matching same trial start piece joins membersBelow dropped stays tab extension grow walk rowTest near agrees absent member rowsBelow rowsTo alone any all padded codeBelow gives decode mostRowsIn needless blank below runEnd codes rowsFrom fieldAt countAt tableAt tablesEnd tablesFrom scanOf tablesCodes
+unfolding joined firstWord secondWord callsOn saysIn handed runOf call callFault work unfit dueOr handOut trialOn offered placed answerOf storeAfter added Store.named searchOf Store.walk linkOf openingFor openFault begun catalogueFault shapeFault storedFault misstored touchingBelow touch forTables sizeFault tablesFault tableFault badScheme countFault firstCell rowStart rowsBefore named missing beyond rowsIn rowOf keyOf filed bitOf ones onesIn touchesIn fitsIn sharing matching same trial start piece joins membersBelow dropped stays tab extension grow walk rowTest near agrees absent member rowsBelow rowsTo alone any all padded codeBelow gives decode mostRowsIn needless blank below runEnd codes rowsFrom fieldAt countAt tableAt tablesEnd tablesFrom scanOf tablesCodes
 edges =
     record {
       numbers = number-edges;

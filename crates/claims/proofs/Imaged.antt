@@ -41,25 +41,25 @@ module _ (cat : Catalogue) (cells : List ℕ) (a : Asked) where
       (subst (Streamed cat cells a c q gs (runOf (call cat cells) gs q)) (sym (r .state)) (run-streamed c q gs d e))
 
   -- Whatever open gave on a lawful catalogue, where the row asked for is there and the store has a record if there is a row.
-  from-open : Lawful cat (length cells) → Askable cat a → (keys left right : List ℕ) → (0 < total cat → 0 < roomIn (storeIn keys left right 0))
-      → (o : Opened) → o ≡ openingFor cat cells a keys left right → (o .refusal ≡ 0) × FromOpen cat cells a (roomIn (storeIn keys left right 0)) (o .after)
-  from-open L y keys left right h o e =
-      let free = opens-iff cat cells a keys left right .1 (L, y, h) in
-      let c = roomIn (storeIn keys left right 0) in
-      let both = demands cat cells a keys left right free in
-      let made : FromOpen cat cells a c (openingFor cat cells a keys left right .after) =
-      record { demand2 = both .0; demand3 = both .1; calls = calls-streamed c (openingFor cat cells a keys left right .after) (both .0) (both .1) }
+  from-open : Lawful cat (length cells) → Askable cat a → (low high left right : List ℕ) → (0 < total cat → 0 < roomIn (storeIn low high left right 0))
+      → (o : Opened) → o ≡ openingFor cat cells a low high left right → (o .refusal ≡ 0) × FromOpen cat cells a (roomIn (storeIn low high left right 0)) (o .after)
+  from-open L y low high left right h o e =
+      let free = opens-iff cat cells a low high left right .1 (L, y, h) in
+      let c = roomIn (storeIn low high left right 0) in
+      let both = demands cat cells a low high left right free in
+      let made : FromOpen cat cells a c (openingFor cat cells a low high left right .after) =
+      record { demand2 = both .0; demand3 = both .1; calls = calls-streamed c (openingFor cat cells a low high left right .after) (both .0) (both .1) }
       in
       (ap (λ (x : Opened). x .refusal) e ∙ free, subst (λ (x : Opened). FromOpen cat cells a c (x .after)) (sym e) made)
 
 pub loaded-demands : LoadedDemands
 loaded-demands =
     record {
-      every-set = λ s lent cells r by l good keys left right h o ks ls rs e.
-          from-open (r .catalogue) cells everySet (loads-accepted s lent cells r by good l .lawful) tt keys left right h _ e;
-      holding = λ s lent cells r by l good keys left right table row there h o ks ls rs e.
+      every-set = λ s lent cells r by l good low high left right h o ks hs ls rs e.
+          from-open (r .catalogue) cells everySet (loads-accepted s lent cells r by good l .lawful) tt low high left right h _ e;
+      holding = λ s lent cells r by l good low high left right table row there h o ks hs ls rs e.
           from-open (r .catalogue) cells (everyWith (record { table = table; row = row })) (loads-accepted s lent cells r by good l .lawful) there
-          keys left right (λ n. h) _ e;
+          low high left right (λ n. h) _ e;
     }
 
 pub round-trips : RoundTrips

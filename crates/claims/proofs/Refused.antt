@@ -77,12 +77,12 @@ unchanged =
         l .cells ∙ ap (λ (v : Verdict). cellsAfter v (tablesCodes (r .catalogue .n) s firstTable) lent) e,
       );
       write = λ cat cells lent after k w. w .bytes;
-      «open» = λ cat cells keys left right o ks ls rs e n.
-          let z = demand1 cat cells everySet .zeroed keys left right (λ f. n (ap (λ (x : Opened). x .refusal) e ∙ f)) .0 in
-          state-one everySet everySet (o .stream) (record { found = 0; taken = 0; «next_row» = 0 }) ks ls rs keys left right
+      «open» = λ cat cells low high left right o ks hs ls rs e n.
+          let z = demand1 cat cells everySet .zeroed low high left right (λ f. n (ap (λ (x : Opened). x .refusal) e ∙ f)) .0 in
+          state-one everySet everySet (o .stream) (record { found = 0; taken = 0; «next_row» = 0 }) ks hs ls rs low high left right
           (ap (λ (x : Opened). x .after) e ∙ z);
-      step = λ cat cells keys left right s b row r ks ls rs w e n.
-          let d = e ∙ demand1 cat cells everySet .refuses b (stateOf s keys left right) row n in
-          let (f, k, l, m) = state-one everySet everySet (r .stream) s ks ls rs keys left right (ap (λ (x : Called). x .after) d) in
-          (f, k, l, m, ap (λ (x : Called). x .row) d);
+      step = λ cat cells low high left right s b row r ks hs ls rs w e n.
+          let d = e ∙ demand1 cat cells everySet .refuses b (stateOf s low high left right) row n in
+          let (f, k, h, l, m) = state-one everySet everySet (r .stream) s ks hs ls rs low high left right (ap (λ (x : Called). x .after) d) in
+          (f, k, h, l, m, ap (λ (x : Called). x .row) d);
     }

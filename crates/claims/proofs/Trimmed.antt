@@ -228,9 +228,9 @@ module _ (cat : Catalogue) (xs cs ps ms : List ℕ) (A : Agree cat xs cs ps ms) 
         ap (λ (s : Place). extension (worldOf cat′ cells) (alone (worldOf cat′ cells) s)) (row-same cells 0) ∙ from-alone (rowAt (worldOf cat cells) 0)
     first-grown (everyWith s) = from-alone s
 
-    open-same : (a : Asked) (keys left right : List ℕ) → openingFor cat′ cells a keys left right ≡ openingFor cat cells a keys left right
+    open-same : (a : Asked) (low high left right : List ℕ) → openingFor cat′ cells a low high left right ≡ openingFor cat cells a low high left right
     unfolding openingFor begun
-    open-same a keys left right = rw (open-fault (length cells) a (storeIn keys left right 0), total-same, first-grown a) refl
+    open-same a low high left right = rw (open-fault (length cells) a (storeIn low high left right 0), total-same, first-grown a) refl
 
   -- ---- a write
 

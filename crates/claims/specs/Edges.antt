@@ -27,7 +27,7 @@ unfoldable pub callsOn : List ℕ → List Given → List Called
 callsOn image gs =
     let cat = scanOf image mostCells .catalogue in
     let cells = put (tablesCodes (cat .n) image firstTable) (replicate mostCells 0) in
-    runOf (call cat cells) gs (opening cat cells (replicate 4 0) (replicate 4 0) (replicate 4 0) .after)
+    runOf (call cat cells) gs (opening cat cells (replicate 4 0) (replicate 4 0) (replicate 4 0) (replicate 4 0) .after)
 
 -- What calls answer.
 unfoldable pub saysIn : List Called → List Says

@@ -58,15 +58,15 @@ pub record FromOpen (cat : Catalogue) (cells : List ℕ) (asked : Asked) (c : �
 pub record LoadedDemands : Type 0 where
   -- In a store that has a record if there is a row: then open has refused nothing, and all of it holds from the record and the slices that it left.
   pub every-set : (s lent cells : List ℕ) (r : Loaded) → Bytes s → Loads s lent r cells → r .verdict ≡ Good
-      → (keys left right : List ℕ) → (0 < total (r .catalogue) → 0 < roomIn (storeIn keys left right 0))
-      → (o : OpenAnswer) (ks ls rs : List ℕ) → Opens (r .catalogue) cells keys left right o ks ls rs
-      → (o .refusal ≡ 0) × FromOpen (r .catalogue) cells everySet (roomIn (storeIn keys left right 0)) (stateOf (o .stream) ks ls rs)
+      → (low high left right : List ℕ) → (0 < total (r .catalogue) → 0 < roomIn (storeIn low high left right 0))
+      → (o : OpenAnswer) (ks hs ls rs : List ℕ) → Opens (r .catalogue) cells low high left right o ks hs ls rs
+      → (o .refusal ≡ 0) × FromOpen (r .catalogue) cells everySet (roomIn (storeIn low high left right 0)) (stateOf (o .stream) ks hs ls rs)
   -- The same for one row that is there, of the stream of the sets that hold it (#109).
   pub holding : (s lent cells : List ℕ) (r : Loaded) → Bytes s → Loads s lent r cells → r .verdict ≡ Good
-      → (keys left right : List ℕ) (table row : ℕ) → There (r .catalogue) table row → 0 < roomIn (storeIn keys left right 0)
-      → (o : HoldingOpenAnswer) (ks ls rs : List ℕ) → OpensHolding (r .catalogue) cells keys left right table row o ks ls rs
+      → (low high left right : List ℕ) (table row : ℕ) → There (r .catalogue) table row → 0 < roomIn (storeIn low high left right 0)
+      → (o : HoldingOpenAnswer) (ks hs ls rs : List ℕ) → OpensHolding (r .catalogue) cells low high left right table row o ks hs ls rs
       → (o .refusal ≡ 0)
-      × FromOpen (r .catalogue) cells (everyWith (record { table = table; row = row })) (roomIn (storeIn keys left right 0)) (holdingStateOf (o .stream) ks ls rs)
+      × FromOpen (r .catalogue) cells (everyWith (record { table = table; row = row })) (roomIn (storeIn low high left right 0)) (holdingStateOf (o .stream) ks hs ls rs)
 
 -- Both ways between an image and its tables.
 pub record RoundTrips : Type 0 where
