@@ -1,2 +1,4 @@
+pub mod SumLaws
 pub mod FilingLaws
+pub mod OrderLaws
 pub mod FrontLaws
