@@ -1,4 +1,5 @@
 pub mod SumLaws
 pub mod FilingLaws
 pub mod OrderLaws
+pub mod RisingLaws
 pub mod FrontLaws
