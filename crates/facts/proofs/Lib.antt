@@ -3,3 +3,4 @@ pub mod FilingLaws
 pub mod OrderLaws
 pub mod RisingLaws
 pub mod FrontLaws
+pub mod Worked

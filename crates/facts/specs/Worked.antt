@@ -1,0 +1,80 @@
+-- Two worked examples beside the third fact of request #114: a pair of one-row tables with a null, where one padded row covers the other set's, and a table
+-- that holds one row twice, where the same happens without a null. Computed in proofs/Worked. Assumes nothing.
+use Prim.Native.Nat.{ℕ}
+use mathlib.Core.Path.{_≡_}
+use mathlib.Core.Logic.{_↔_}
+use mathlib.Core.Bool.{true, false}
+use mathlib.Core.List.{List, [], _∷_, List·Memᴰ}
+use lib.ListN.{length}
+use Rattle.tables.specs.declared.Catalogue.{Catalogue}
+use Rattle.tables.specs.Checks.{Lawful}
+use Rattle.disjunction.specs.Sets.{Maximal}
+use Rattle.disjunction.specs.Cells.{padded}
+use Rattle.rows.specs.World.{cellsIn, worldOf}
+use Rattle.padding.specs.Covering.{covering}
+use Rattle.loader.specs.Reading.{refusalAt}
+use Rattle.loader.specs.Load.{firstTable, refused, scanOf, tablesCodes}
+use Rattle.writer.specs.Write.{imageOf, writeFault}
+use Rattle.image.specs.RoundTrip.{found}
+use Rattle.facts.specs.Front.{NoNulls}
+
+-- "A worked pair of one-row tables": both over attributes 0 and 1, with the rows (1, 2) and (1, null).
+unfoldable pub pair : Catalogue
+pair =
+    record {
+      m = 2;
+      n = 2;
+      schemes = 3 ∷ 3 ∷ 0 ∷ 0 ∷ 0 ∷ 0 ∷ 0 ∷ 0 ∷ [];
+      rows = 1 ∷ 1 ∷ 0 ∷ 0 ∷ 0 ∷ 0 ∷ 0 ∷ 0 ∷ [];
+      places = 0 ∷ 2 ∷ 0 ∷ 0 ∷ 0 ∷ 0 ∷ 0 ∷ 0 ∷ [];
+      touching = 2 ∷ 1 ∷ 0 ∷ 0 ∷ 0 ∷ 0 ∷ 0 ∷ 0 ∷ [];
+    }
+
+-- Their rows, as codes.
+unfoldable pub pairCells : List ℕ
+pairCells = 2 ∷ 3 ∷ 2 ∷ 0 ∷ []
+
+-- Their image.
+unfoldable pub pairBytes : List ℕ
+pairBytes = 0x01 ∷ 0x02 ∷ 0x02 ∷ 0x03 ∷ 0x01 ∷ 0x02 ∷ 0x03 ∷ 0x03 ∷ 0x01 ∷ 0x02 ∷ 0x00 ∷ []
+
+-- "The last fails with nulls": each row is a set of its own, since null matches nothing, and (1, 2) covers (1, null).
+pub record NullCovered : Type 0 where
+  pub loads : (scanOf pairBytes 4 ≡ found pair) × (tablesCodes 2 pairBytes firstTable ≡ pairCells)
+  pub sets : (T : List ℕ) → Maximal (worldOf pair pairCells) T ↔ List·Memᴰ T ((1 ∷ 0 ∷ []) ∷ (0 ∷ 1 ∷ []) ∷ [])
+  pub rows : (padded (cellsIn pair pairCells) (1 ∷ 0 ∷ []) ≡ 2 ∷ 3 ∷ []) × (padded (cellsIn pair pairCells) (0 ∷ 1 ∷ []) ≡ 2 ∷ 0 ∷ [])
+  pub covers : covering (2 ∷ 3 ∷ []) (2 ∷ 0 ∷ []) ≡ true
+  pub other-way : covering (2 ∷ 0 ∷ []) (2 ∷ 3 ∷ []) ≡ false
+
+-- One table over attribute 0 that holds the row (1) twice.
+unfoldable pub twice : Catalogue
+twice =
+    record {
+      m = 1;
+      n = 1;
+      schemes = 1 ∷ 0 ∷ 0 ∷ 0 ∷ 0 ∷ 0 ∷ 0 ∷ 0 ∷ [];
+      rows = 2 ∷ 0 ∷ 0 ∷ 0 ∷ 0 ∷ 0 ∷ 0 ∷ 0 ∷ [];
+      places = 0 ∷ 0 ∷ 0 ∷ 0 ∷ 0 ∷ 0 ∷ 0 ∷ 0 ∷ [];
+      touching = 0 ∷ 0 ∷ 0 ∷ 0 ∷ 0 ∷ 0 ∷ 0 ∷ 0 ∷ [];
+    }
+
+-- Its rows, as codes.
+unfoldable pub twiceCells : List ℕ
+twiceCells = 2 ∷ 2 ∷ []
+
+-- What its image would be.
+unfoldable pub twiceBytes : List ℕ
+twiceBytes = 0x01 ∷ 0x01 ∷ 0x01 ∷ 0x01 ∷ 0x02 ∷ 0x02 ∷ 0x02 ∷ []
+
+-- Why the third fact asks for tables that the loader accepts: each of the two rows is a set, their padded row is one, and no table holds a null.
+pub record TwiceCovered : Type 0 where
+  -- Nothing that open looks at is wrong with it,
+  pub lawful : Lawful twice (length twiceCells)
+  -- but the writer refuses its rows by 7, and so does the loader, at the second row.
+  pub unwritten : writeFault twice twiceCells ≡ 7
+  pub image : imageOf twice twiceCells ≡ twiceBytes
+  pub unloaded : scanOf twiceBytes 2 ≡ refused (refusalAt 7 6 0)
+  pub no-nulls : NoNulls (cellsIn twice twiceCells)
+  pub sets : (T : List ℕ) → Maximal (worldOf twice twiceCells) T ↔ List·Memᴰ T ((1 ∷ []) ∷ (2 ∷ []) ∷ [])
+  pub rows : (padded (cellsIn twice twiceCells) (1 ∷ []) ≡ 2 ∷ []) × (padded (cellsIn twice twiceCells) (2 ∷ []) ≡ 2 ∷ [])
+  pub covers : covering (2 ∷ []) (2 ∷ []) ≡ true
