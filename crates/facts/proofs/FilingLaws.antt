@@ -29,7 +29,8 @@ module _ (n : ℕ) (from : ℕ → ℕ) (T : List ℕ) where
   unfolding renumbered
   renumbered-at u l = tab-at n (λ u. at T (from u)) u l
 
-numbers-back : (n : ℕ) (to from : ℕ → ℕ) → Renumbering n to from → Renumbering n from to
+-- The other way round.
+pub numbers-back : (n : ℕ) (to from : ℕ → ℕ) → Renumbering n to from → Renumbering n from to
 numbers-back n to from h = record { to-lt = h .from-lt; from-lt = h .to-lt; from-to = h .to-from; to-from = h .from-to }
 
 -- There and back again.

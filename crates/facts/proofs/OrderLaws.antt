@@ -30,7 +30,7 @@ use Rattle.claims.specs.WriteRefusals.{rowCells}
 use Rattle.claims.proofs.RowsExactly.{rows-good}
 use Rattle.facts.specs.Filing.{Renumbering, renumbered, RefiledCells, reordered, reorderedTo, reorderedCells, reorderedIn}
 use Rattle.facts.proofs.SumLaws.{sumTo, sum-renumbered}
-use Rattle.facts.proofs.FilingLaws.{cells-refiled, refiled-maximal, refiled-padded}
+use Rattle.facts.proofs.FilingLaws.{renumbered-long, renumbered-back, numbers-back, cells-refiled, refiled-maximal, refiled-padded}
 
 -- An element of a part of a list.
 pub part-at : (a k i : ℕ) (l : List ℕ) → i < k → getD (part a k l) i 0 ≡ getD l (a + i) 0
@@ -176,6 +176,14 @@ module _ (cat : Catalogue) (cells : List ℕ) (to from : ℕ → ℕ) (h : Renum
     moved-maximal T e =
         subst₂ (λ (W X : Tables). Maximal W T ↔ Maximal X (renumbered (cat .n) from T)) (sym (world-tables cat cells)) (sym (world-tables moved new))
         (refiled-maximal (tables (cellsIn cat cells)) (tables (cellsIn moved new)) to from (cells-refiled (cellsIn cat cells) (cellsIn moved new) to from moved-cells) T e)
+
+    -- every one of the new maximal sets is one of these;
+    pub maximal-moved : (U : List ℕ) → Maximal (worldOf moved new) U
+        → Maximal (worldOf cat cells) (renumbered (cat .n) to U) × (renumbered (cat .n) from (renumbered (cat .n) to U) ≡ U)
+    maximal-moved U y =
+        let e : renumbered (cat .n) from (renumbered (cat .n) to U) ≡ U =
+        renumbered-back (cat .n) from to (numbers-back (cat .n) to from h) U (y .jcc .valid .long) in
+        (moved-maximal (renumbered (cat .n) to U) (renumbered-long (cat .n) to U) .1 (subst (Maximal (worldOf moved new)) (sym e) y), e)
 
     -- their padded rows are the same, too.
     pub moved-padded : (T : List ℕ) → Maximal (worldOf cat cells) T → padded (cellsIn moved new) (renumbered (cat .n) from T) ≡ padded (cellsIn cat cells) T
