@@ -3,7 +3,7 @@
 use Prim.Native.Nat.{ℕ, _≤_, _<_}
 use native.Mathlib.Omega.{arith}
 use native.Mathlib.Decide.{decLt}
-use mathlib.Core.Path.{_≡_, refl, sym, ap, subst, _∙_}
+use mathlib.Core.Path.{_≡_, refl, sym, ap, subst, subst₂, _∙_}
 use mathlib.Core.Logic.{_⊎_, inl, inr, ⊎-elim}
 use mathlib.Core.List.{List, [], _∷_, _++_, List·Memᴰ, List·Memᴰ·head, List·Memᴰ·tail, List·Memᴰ·not-nil, List·Memᴰ·cases-cons, Memᴰ·append-right}
 use lib.ListN.{length, getD, take}
@@ -33,11 +33,11 @@ use Rattle.writer.specs.Write.{Accepted}
 use Rattle.image.proofs.RoundTrip.{loads-accepted}
 use Rattle.facts.specs.Filing.{Renumbering, renumbered, reordered, reorderedIn}
 use Rattle.facts.specs.Worked.{pair, pairCells, twice, twiceCells}
-use Rattle.facts.specs.FrontPage.{Began, Drained, Out, Shown, SameSets, GoodLoad, FrontPage}
+use Rattle.facts.specs.FrontPage.{OpenCall, recordsOf, streamOf, Drained, Out, Shown, SameSets, GoodLoad, FrontPage}
 use Rattle.facts.proofs.FilingLaws.{renumbered-back}
 use Rattle.facts.proofs.OrderLaws.{moved-maximal, maximal-moved, moved-padded}
 use Rattle.facts.proofs.OrderImages.{moved-loads}
-use Rattle.facts.proofs.RisingLaws.{accepted-filed}
+use Rattle.facts.proofs.FiledLaws.{accepted-filed}
 use Rattle.facts.proofs.FrontLaws.{every-row-stands, none-covered}
 use Rattle.facts.proofs.Worked.{null-covered, twice-covered}
 
@@ -87,23 +87,28 @@ handed-key (u ∷ l) k m = go (u .says) refl m (handed-key l k)
 -- ---- what comes out
 
 -- Where open refused nothing the tables are lawful, and demand 2 holds of the calls after it.
-module _ (cat : Catalogue) (cells : List ℕ) (q : State) (b : Began cat cells q) where
-  began-free : opening cat cells (b .keys) (b .left) (b .right) .refusal ≡ 0
-  began-free = sym (ap (λ (o : Opened). o .refusal) (b .opens)) ∙ b .free
+module _ (cat : Catalogue) (cells : List ℕ) (o : OpenCall cat cells) (free : o .answer .refusal ≡ 0) where
+  open-free : opening cat cells (o .keys) (o .left) (o .right) .refusal ≡ 0
+  open-free = sym (ap (λ (x : Opened). x .refusal) (o .opens)) ∙ free
 
-  began-lawful : Lawful cat (length cells)
-  began-lawful = opens-iff cat cells everySet (b .keys) (b .left) (b .right) .0 began-free .0
+  open-lawful : Lawful cat (length cells)
+  open-lawful = opens-iff cat cells everySet (o .keys) (o .left) (o .right) .0 open-free .0
 
-  began-demand : Demand2 cat cells everySet (call cat cells) q
-  began-demand =
-      subst (Demand2 cat cells everySet (call cat cells)) (sym (b .state ∙ ap (λ (o : Opened). o .after) (b .opens)))
-      (demands cat cells everySet (b .keys) (b .left) (b .right) began-free .0)
+  open-demand : Demand2 cat cells everySet (call cat cells) (streamOf cat cells o)
+  open-demand =
+      subst (λ (x : Opened). Demand2 cat cells everySet (call cat cells) (x .after)) (sym (o .opens))
+      (demands cat cells everySet (o .keys) (o .left) (o .right) open-free .0)
+
+-- A lawful catalogue is taken by an open that has a record.
+opens-taken : (cat : Catalogue) (cells : List ℕ) → Lawful cat (length cells) → (o : OpenCall cat cells) → 0 < recordsOf cat cells o → o .answer .refusal ≡ 0
+opens-taken cat cells L o room =
+    ap (λ (x : Opened). x .refusal) (o .opens) ∙ opens-iff cat cells everySet (o .keys) (o .left) (o .right) .1 (L, tt, λ n. room)
 
 module _ (cat : Catalogue) (cells : List ℕ) (l : List Called) (D : Drained cat cells l) where
-  demand : Demand2 cat cells everySet (call cat cells) (D .start)
-  demand = began-demand cat cells (D .start) (D .began)
+  demand : Demand2 cat cells everySet (call cat cells) (streamOf cat cells (D .opened))
+  demand = open-demand cat cells (D .opened) (D .free)
 
-  ran : l ≡ runOf (call cat cells) (D .gave) (D .start)
+  ran : l ≡ runOf (call cat cells) (D .gave) (streamOf cat cells (D .opened))
   ran = in-row-ran cat cells (D .calls) .answers
 
   -- The keys handed out: of maximal sets, none twice, every one.
@@ -124,8 +129,8 @@ module _ (cat : Catalogue) (cells : List ℕ) (l : List Called) (D : Drained cat
   -- The padded row that a call wrote is its set's.
   row-out : (s : Called) → List·Memᴰ s l → s .says ≡ aSet → take (cat .m) (s .row) ≡ padded (cellsIn cat cells) (setOf cat (s .key))
   row-out s m e =
-      let (es, b, row, f) = run-call (call cat cells) (D .gave) (D .start) s (subst (λ (y : List Called). List·Memᴰ s y) ran m) in
-      let c = call cat cells b (endedOf (call cat cells) es (D .start)) row in
+      let (es, b, row, f) = run-call (call cat cells) (D .gave) (streamOf cat cells (D .opened)) s (subst (λ (y : List Called). List·Memᴰ s y) ran m) in
+      let c = call cat cells b (endedOf (call cat cells) es (streamOf cat cells (D .opened))) row in
       let p = demand .padded es b row (ap (λ (y : Called). y .says) (sym f) ∙ e) in
       let C = cellsIn cat cells in
       let x : Maximal (tables C) (setOf cat (s .key)) =
@@ -192,7 +197,7 @@ module _ (cat : Catalogue) (cells : List ℕ) (l : List Called) (D : Drained cat
 module _ (cat : Catalogue) (cells lent : List ℕ) (to from : ℕ → ℕ) (h : Renumbering (cat .n) to from) (l l′ : List Called)
     (D : Drained cat cells l) (D′ : Drained (reordered from cat) (reorderedIn from cat cells lent) l′) where
   L : Lawful cat (length cells)
-  L = began-lawful cat cells (D .start) (D .began)
+  L = open-lawful cat cells (D .opened) (D .free)
 
   abbrev moved : Catalogue
   moved = reordered from cat
@@ -250,6 +255,9 @@ front-page =
       order = same-sets;
       order-loads = λ s lent cells r g to from h lent′ cells′ r′ fits l′.
           moved-loads (r .catalogue) cells to from h (load-accepted s lent cells r g) lent′ cells′ r′ fits l′;
+      order-images = λ s lent cells r g to from h lent′ cells′ r′ fits i l l′ D D′.
+          let (e, c) = moved-loads (r .catalogue) cells to from h (load-accepted s lent cells r g) lent′ cells′ r′ fits i in
+          same-sets (r .catalogue) cells lent′ to from h l l′ D (subst₂ (λ (x : Loaded) (y : List ℕ). Drained (x .catalogue) y l′) e c D′);
       stands = λ cat cells l D t r h.
           let (T, x, e) = every-row-stands (worldOf cat cells) (world-symmetric cat cells) t r (record { table = h .table; low = h .low; high = h .high }) in
           (T, padded (cellsIn cat cells) T, drained-shown cat cells l D .every T x, e);
@@ -270,8 +278,7 @@ front-page =
           (subst (Out pair l (1 ∷ 0 ∷ [])) (rows .0) (S .every (1 ∷ 0 ∷ []) (set (1 ∷ 0 ∷ []) .1 (List·Memᴰ·head refl))),
           subst (Out pair l (0 ∷ 1 ∷ [])) (rows .1) (S .every (0 ∷ 1 ∷ []) (set (0 ∷ 1 ∷ []) .1 (List·Memᴰ·tail (List·Memᴰ·head refl)))));
       twice-covers = twice-covered;
-      twice-opens = λ keys left right room o keys′ left′ right′ p.
-          ap (λ (x : Opened). x .refusal) p ∙ opens-iff twice twiceCells everySet keys left right .1 (twice-covered .lawful, tt, λ n. room);
+      twice-opens = opens-taken twice twiceCells (twice-covered .lawful);
       twice-out = λ l D.
           let S = drained-shown twice twiceCells l D in
           let set = twice-covered .sets in

@@ -1,20 +1,17 @@
 -- The two worked examples, computed by the definitions. That the sets found are all the maximal ones is `drained-all`. Assumes nothing.
-use Prim.Native.Nat.{ℕ, zero, suc, _+_, _/_, _%_, _^_, _<_}
+use Prim.Native.Nat.{ℕ, zero, suc, _<_}
 use native.Mathlib.Omega.{arith}
 use native.Mathlib.Decide.{ℕ-discrete}
 use mathlib.Core.Path.{_≡_, refl}
-use mathlib.Core.Bool.{Bool}
 use mathlib.Core.List.{List, [], _∷_}
 use lib.ListN.{length, getD}
-use lib.Bits.{bitAnd}
 use lib.Count.{ones, onesIn}
 use Rattle.laws.specs.Tests.{any, all}
 use Rattle.laws.specs.Lists.{tab}
 use Rattle.words.specs.Words.{bitOf}
 use Rattle.numbers.specs.Numbers.{encode, decode}
-use Rattle.tables.specs.declared.Catalogue.{Catalogue}
 use Rattle.tables.specs.Rows.{below}
-use Rattle.tables.specs.Catalogues.{schemeOf, firstCell, rowStart, touch, touchingBelow, forTables}
+use Rattle.tables.specs.Catalogues.{firstCell, rowStart, touch, touchingBelow, forTables}
 use Rattle.tables.specs.Checks.{Lawful, sizeFault, badScheme, countFault, tableFault, tablesFault, shapeFault, misstored, storedFault, catalogueFault}
 use Rattle.tables.proofs.CheckLaws.{fault-lawful}
 use Rattle.disjunction.specs.Rule.{rowsTo, rowsBelow, rowAt, member, absent, near, agrees, rowTest, walk, grow, extension, stays, dropped, alone, joins, membersBelow, piece, start, trial}
@@ -23,21 +20,14 @@ use Rattle.disjunction.specs.Asked.{everySet}
 use Rattle.disjunction.specs.Keeping.{sameDec, sets-discrete, decMemᴰ, stored, keep, keepIf, take, try, listOpen, listMove, listMoves}
 use Rattle.disjunction.proofs.Draining.{ended, drained-all}
 use Rattle.rows.specs.World.{cellsIn, worldOf, touchesIn, fitsIn}
-use Rattle.rows.proofs.WorldLaws.{world-symmetric, code-inside, row-room}
+use Rattle.rows.proofs.WorldLaws.{world-symmetric}
 use Rattle.padding.specs.Covering.{keeps, covering}
 use Rattle.loader.specs.Reading.{refusalAt, runEnd, codes, rowsFrom}
 use Rattle.loader.specs.Load.{firstTable, refused, fieldAt, countAt, tableAt, tablesFrom, scanOf, tablesCodes}
 use Rattle.writer.specs.Write.{encodes, tablesImage, imageOf, tooHigh, rowsFault, cellsFault, writeFault}
 use Rattle.image.specs.RoundTrip.{found}
-use Rattle.facts.specs.Front.{NoNulls}
 use Rattle.facts.specs.Worked.{pair, pairCells, pairBytes, NullCovered, twice, twiceCells, twiceBytes, TwiceCovered}
-
--- Where every cell has a value, no table holds a null.
-pub values-no-nulls : (cat : Catalogue) (cells : List ℕ) → Lawful cat (length cells) → ((k : ℕ) → k < length cells → 0 < getD cells k 0)
-    → NoNulls (cellsIn cat cells)
-values-no-nulls cat cells L h t r a k l b =
-    let inside = row-room cat (length cells) L t r (record { table = k .table; low = k .low; high = k .high }) in
-    h (rowStart cat t r + ones (schemeOf cat t % 2 ^ a)) (code-inside (schemeOf cat t) (rowStart cat t r) (length cells) a inside b)
+use Rattle.facts.proofs.FiledLaws.{values-no-nulls}
 
 -- The stream over both is at its end after its trials and a step for each set, and has found these sets.
 pair-drained : listMoves (worldOf pair pairCells) everySet 6 (listOpen (worldOf pair pairCells) everySet)
@@ -81,8 +71,8 @@ twice-refused : (writeFault twice twiceCells ≡ 7) × (imageOf twice twiceCells
 unfolding twice twiceCells twiceBytes firstCell touch touchingBelow ones onesIn sizeFault badScheme countFault tableFault tablesFault shapeFault misstored storedFault catalogueFault any encode encodes tablesImage imageOf tooHigh below rowsFault cellsFault writeFault decode runEnd codes rowsFrom fieldAt countAt tableAt tablesFrom scanOf
 twice-refused = (refl, refl, refl)
 
-twice-values : (k : ℕ) → k < length twiceCells → 0 < getD twiceCells k 0
-unfolding twiceCells
+twice-values : (k : ℕ) → k < firstCell twice (twice .n) → 0 < getD twiceCells k 0
+unfolding twice twiceCells firstCell ones onesIn
 twice-values zero l = omega arith
 twice-values (suc zero) l = omega arith
 twice-values (suc (suc k)) l = absurd (omega arith)
@@ -102,7 +92,7 @@ twice-covered =
       unwritten = twice-refused .0;
       image = twice-refused .1;
       unloaded = twice-refused .2;
-      no-nulls = values-no-nulls twice twiceCells twice-lawful twice-values;
+      no-nulls = values-no-nulls twice twiceCells (length twiceCells) twice-lawful twice-values;
       sets = λ T. drained-all (worldOf twice twiceCells) everySet (world-symmetric twice twiceCells) tt 6 ((1 ∷ []) ∷ (2 ∷ []) ∷ []) twice-drained (omega arith) T;
       rows = twice-rows;
       covers = refl;

@@ -1,5 +1,5 @@
 -- The tables of which request #114 says that no padded row covers another set's: they hold no null, no scheme is empty and no row stands twice in its
--- table. That tables which the loader accepts are `Filed` stands in proofs/RisingLaws. Assumes nothing.
+-- table. That tables which the loader accepts are `Filed` stands in proofs/FiledLaws. Assumes nothing.
 use Prim.Native.Nat.{ℕ, _<_}
 use mathlib.Core.Path.{_≡_}
 use mathlib.Core.Bool.{true}

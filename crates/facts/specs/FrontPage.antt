@@ -32,8 +32,8 @@ use Rattle.facts.specs.Worked.{pair, pairCells, twice, twiceCells, NullC
 
 -- ---- a drained stream
 
--- A stream of every set was opened on these tables, in some store, without refusal, and left the state q.
-pub record Began (cat : Catalogue) (cells : List ℕ) (q : State) : Type 0 where
+-- A call that opened a stream of every set on these tables: the store that was lent, what the call answered, and what the store's lists then hold.
+pub record OpenCall (cat : Catalogue) (cells : List ℕ) : Type 0 where
   pub keys : List ℕ
   pub left : List ℕ
   pub right : List ℕ
@@ -42,17 +42,24 @@ pub record Began (cat : Catalogue) (cells : List ℕ) (q : State) : Type 0 where
   pub left′ : List ℕ
   pub right′ : List ℕ
   pub opens : Opens cat cells keys left right answer keys′ left′ right′
-  pub free : answer .refusal ≡ 0
-  pub state : q ≡ stateOf (answer .stream) keys′ left′ right′
 
--- It was called, by public calls in a row, until one told the end; l are all their answers.
-pub record Drained (cat : Catalogue) (cells : List ℕ) (l : List Called) : Type 0 where
-  pub start : State
-  pub began : Began cat cells start
-  pub gave : List Given
-  pub last : State
-  pub calls : InRow cat cells start gave l last
-  pub told : Answered finished l
+module _ (cat : Catalogue) (cells : List ℕ) where
+  -- How many records the store has room for.
+  abbrev pub recordsOf : OpenCall cat cells → ℕ
+  recordsOf o = roomIn (storeIn (o .keys) (o .left) (o .right) 0)
+
+  -- The stream that it left.
+  abbrev pub streamOf : OpenCall cat cells → State
+  streamOf o = stateOf (o .answer .stream) (o .keys′) (o .left′) (o .right′)
+
+  -- A stream was opened without refusal and called, by public calls in a row, until one told the end; l are all their answers.
+  pub record Drained (l : List Called) : Type 0 where
+    pub opened : OpenCall cat cells
+    pub free : opened .answer .refusal ≡ 0
+    pub gave : List Given
+    pub last : State
+    pub calls : InRow cat cells (streamOf opened) gave l last
+    pub told : Answered finished l
 
 -- Some call of l handed out the set T, with this padded row.
 pub record Out (cat : Catalogue) (l : List Called) (T row : List ℕ) : Type 0 where
@@ -96,6 +103,11 @@ pub record FrontPage : Type 0 where
       → (lent′ cells′ : List ℕ) (r′ : Loaded) → firstCell (r .catalogue) (r .catalogue .n) ≤ length lent′
       → Loads (imageOf (reordered from (r .catalogue)) (reorderedCells from (r .catalogue) cells)) lent′ r′ cells′
       → (r′ ≡ found (reordered from (r .catalogue))) × (cells′ ≡ reorderedIn from (r .catalogue) cells lent′)
+  -- So it is of two images, the second of which has the first's tables in the new order.
+  pub order-images : (s lent cells : List ℕ) (r : Loaded) → GoodLoad s lent cells r → (to from : ℕ → ℕ) → Renumbering (r .catalogue .n) to from
+      → (lent′ cells′ : List ℕ) (r′ : Loaded) → firstCell (r .catalogue) (r .catalogue .n) ≤ length lent′
+      → Loads (imageOf (reordered from (r .catalogue)) (reorderedCells from (r .catalogue) cells)) lent′ r′ cells′
+      → (l l′ : List Called) → Drained (r .catalogue) cells l → Drained (r′ .catalogue) cells′ l′ → SameSets (r .catalogue) to from l l′
   -- "Every row of every table stands in some set", of all tables that open takes.
   pub stands : (cat : Catalogue) (cells : List ℕ) (l : List Called) → Drained cat cells l → (t r : ℕ) → There cat t r
       → (T : List ℕ) × (row : List ℕ) × Out cat l T row × (at T t ≡ r)
@@ -108,6 +120,5 @@ pub record FrontPage : Type 0 where
   pub null-out : (l : List Called) → Drained pair pairCells l → Out pair l (1 ∷ 0 ∷ []) (2 ∷ 3 ∷ []) × Out pair l (0 ∷ 1 ∷ []) (2 ∷ 0 ∷ [])
   -- It fails, too, of a table that holds one row twice, which the loader refuses by 7 and open takes.
   pub twice-covers : TwiceCovered
-  pub twice-opens : (keys left right : List ℕ) → 0 < roomIn (storeIn keys left right 0) → (o : OpenAnswer) (keys′ left′ right′ : List ℕ)
-      → Opens twice twiceCells keys left right o keys′ left′ right′ → o .refusal ≡ 0
+  pub twice-opens : (o : OpenCall twice twiceCells) → 0 < recordsOf twice twiceCells o → o .answer .refusal ≡ 0
   pub twice-out : (l : List Called) → Drained twice twiceCells l → Out twice l (1 ∷ []) (2 ∷ []) × Out twice l (2 ∷ []) (2 ∷ [])

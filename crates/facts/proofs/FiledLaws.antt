@@ -1,5 +1,5 @@
 -- Tables that the loader accepts have no empty scheme, and no row stands twice in its table: rows strictly rise, so a later row lies above an earlier one
--- and differs from it in some cell, and every cell is the code of an attribute of the scheme. Assumes nothing.
+-- and differs from it in some cell, and every cell is the code of an attribute of the scheme. And when no table holds a null. Assumes nothing.
 use Prim.Native.Nat.{ℕ, zero, suc, _+_, _-_, _*_, _/_, _%_, _^_, _≤_, _<_}
 use native.Mathlib.Omega.{arith}
 use native.Mathlib.Nat.{mod-lt, add-zero}
@@ -18,7 +18,7 @@ use Rattle.laws.proofs.TestLaws.{which, clash}
 use Rattle.words.specs.Words.{bitOf}
 use Rattle.words.proofs.WordLaws.{bit-low, trailing-lowest}
 use Rattle.tables.specs.declared.Catalogue.{Catalogue}
-use Rattle.tables.specs.Catalogues.{schemeOf, countOf, rowStart, codeOf}
+use Rattle.tables.specs.Catalogues.{schemeOf, countOf, firstCell, rowStart, codeOf}
 use Rattle.tables.specs.Rows.{below}
 use Rattle.tables.specs.Checks.{Lawful}
 use Rattle.tables.proofs.CatalogueLaws.{row-inside}
@@ -26,10 +26,11 @@ use Rattle.tables.proofs.RowLaws.{below-none, below-bad, below-lt, below-gt, be
 use Rattle.disjunction.specs.Sets.{Row}
 use Rattle.disjunction.specs.Cells.{tables}
 use Rattle.rows.specs.World.{cellsIn}
+use Rattle.rows.proofs.WorldLaws.{code-inside}
 use Rattle.writer.specs.Write.{Accepted}
 use Rattle.claims.specs.WriteRefusals.{rowCells}
 use Rattle.claims.proofs.RowsExactly.{rows-good}
-use Rattle.facts.specs.Front.{Filed}
+use Rattle.facts.specs.Front.{NoNulls, Filed}
 use Rattle.facts.proofs.OrderLaws.{part-at}
 
 -- ---- one row lies below another
@@ -159,3 +160,12 @@ module _ (cat : Catalogue) (cells : List ℕ) (A : Accepted cat cells) where
       once t r q hr hq e (yes b) d = absurd (apart t (hr .table) r q (hr .low) b (hq .high) e)
       once t r q hr hq e (no b) (yes d) = absurd (apart t (hr .table) q r (hq .low) d (hr .high) (sym e))
       once t r q hr hq e (no b) (no d) = omega arith
+
+-- ---- no nulls
+
+-- Where every cell of the tables has a value, no table holds a null.
+pub values-no-nulls : (cat : Catalogue) (cells : List ℕ) (lent : ℕ) → Lawful cat lent → ((k : ℕ) → k < firstCell cat (cat .n) → 0 < getD cells k 0)
+    → NoNulls (cellsIn cat cells)
+values-no-nulls cat cells lent L h t r a k l b =
+    let inside = row-inside cat lent L t r (k .table) (k .low) (k .high) in
+    h (rowStart cat t r + ones (schemeOf cat t % 2 ^ a)) (code-inside (schemeOf cat t) (rowStart cat t r) (firstCell cat (cat .n)) a inside b)
