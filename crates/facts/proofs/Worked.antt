@@ -1,4 +1,4 @@
--- The two worked examples, computed by the definitions. That the sets found are all the maximal ones is `drained-all`. Assumes nothing.
+-- The worked examples, computed by the definitions. That the sets found are all the maximal ones is `drained-all`. Assumes nothing.
 use Prim.Native.Nat.{ℕ, zero, suc, _<_}
 use native.Mathlib.Omega.{arith}
 use native.Mathlib.Decide.{ℕ-discrete}
@@ -13,6 +13,7 @@ use Rattle.numbers.specs.Numbers.{encode, decode}
 use Rattle.tables.specs.Rows.{below}
 use Rattle.tables.specs.Catalogues.{firstCell, rowStart, touch, touchingBelow, forTables}
 use Rattle.tables.specs.Checks.{Lawful, sizeFault, badScheme, countFault, tableFault, tablesFault, shapeFault, misstored, storedFault, catalogueFault}
+use Rattle.tables.specs.Sample.{three, threeCells}
 use Rattle.tables.proofs.CheckLaws.{fault-lawful}
 use Rattle.disjunction.specs.Rule.{rowsTo, rowsBelow, rowAt, member, absent, near, agrees, rowTest, walk, grow, extension, stays, dropped, alone, joins, membersBelow, piece, start, trial}
 use Rattle.disjunction.specs.Cells.{same, sharing, matching, gives, codeBelow, padded}
@@ -26,8 +27,53 @@ use Rattle.loader.specs.Reading.{refusalAt, runEnd, codes, rowsFrom}
 use Rattle.loader.specs.Load.{firstTable, refused, fieldAt, countAt, tableAt, tablesFrom, scanOf, tablesCodes}
 use Rattle.writer.specs.Write.{encodes, tablesImage, imageOf, tooHigh, rowsFault, cellsFault, writeFault}
 use Rattle.image.specs.RoundTrip.{found}
-use Rattle.facts.specs.Worked.{pair, pairCells, pairBytes, NullCovered, twice, twiceCells, twiceBytes, TwiceCovered}
+use Rattle.facts.specs.Filing.{renumbered, reordered, reorderedTo, reorderedCells}
+use Rattle.facts.specs.Worked.{turnedFrom, turnedTo, SampleTurned, pair, pairCells, pairBytes, NullCovered, twice, twiceCells, twiceBytes, TwiceCovered}
 use Rattle.facts.proofs.FiledLaws.{values-no-nulls}
+
+-- ---- the sample in another order
+
+turned-drained : listMoves (worldOf (reordered turnedFrom three) (reorderedCells turnedFrom three threeCells)) everySet 21
+    (listOpen (worldOf (reordered turnedFrom three) (reorderedCells turnedFrom three threeCells)) everySet)
+    ≡ ended (worldOf (reordered turnedFrom three) (reorderedCells turnedFrom three threeCells)) ((1 ∷ 1 ∷ 1 ∷ []) ∷ (2 ∷ 2 ∷ 0 ∷ []) ∷ (0 ∷ 0 ∷ 2 ∷ []) ∷ [])
+unfolding three threeCells reorderedTo forTables firstCell rowStart bitOf ones onesIn touchesIn fitsIn listMoves listMove listOpen try take keepIf keep stored decMemᴰ sets-discrete sameDec ℕ-discrete trial start piece joins membersBelow dropped stays tab extension grow walk rowTest near agrees absent member rowsBelow rowsTo alone sharing matching same any all
+turned-drained = refl
+
+pub sample-turned : SampleTurned
+unfolding three threeCells reorderedTo renumbered forTables tab firstCell touch touchingBelow ones onesIn
+sample-turned =
+    record {
+      numbers = record { to-lt = to-lt; from-lt = from-lt; from-to = from-to; to-from = to-from };
+      catalogue = refl;
+      cells = refl;
+      first = refl;
+      second = refl;
+      third = refl;
+      sets = λ T. drained-all (worldOf (reordered turnedFrom three) (reorderedCells turnedFrom three threeCells)) everySet
+          (world-symmetric (reordered turnedFrom three) (reorderedCells turnedFrom three threeCells)) tt 21
+          ((1 ∷ 1 ∷ 1 ∷ []) ∷ (2 ∷ 2 ∷ 0 ∷ []) ∷ (0 ∷ 0 ∷ 2 ∷ []) ∷ []) turned-drained (omega arith) T;
+    }
+  where
+    -- What holds of 0, 1 and 2 holds below 3.
+    three-of : (P : ℕ → Type 0) → P 0 → P 1 → P 2 → (t : ℕ) → t < 3 → P t
+    three-of P a b c zero l = a
+    three-of P a b c (suc zero) l = b
+    three-of P a b c (suc (suc zero)) l = c
+    three-of P a b c (suc (suc (suc t))) l = absurd (omega arith)
+
+    to-lt : (t : ℕ) → t < 3 → turnedTo t < 3
+    to-lt = three-of (λ t. turnedTo t < 3) (omega arith) (omega arith) (omega arith)
+
+    from-lt : (u : ℕ) → u < 3 → turnedFrom u < 3
+    from-lt = three-of (λ u. turnedFrom u < 3) (omega arith) (omega arith) (omega arith)
+
+    from-to : (t : ℕ) → t < 3 → turnedFrom (turnedTo t) ≡ t
+    from-to = three-of (λ t. turnedFrom (turnedTo t) ≡ t) refl refl refl
+
+    to-from : (u : ℕ) → u < 3 → turnedTo (turnedFrom u) ≡ u
+    to-from = three-of (λ u. turnedTo (turnedFrom u) ≡ u) refl refl refl
+
+-- ---- the sets of the two others
 
 -- The stream over both is at its end after its trials and a step for each set, and has found these sets.
 pair-drained : listMoves (worldOf pair pairCells) everySet 6 (listOpen (worldOf pair pairCells) everySet)

@@ -1,13 +1,14 @@
--- Two worked examples beside the third fact of request #114: a pair of one-row tables with a null, where one padded row covers the other set's, and a table
--- that holds one row twice, where the same happens without a null. Computed in proofs/Worked. Assumes nothing.
+-- Worked examples beside the facts of request #114: document 01's sample in another order; a pair of one-row tables with a null, where one padded row
+-- covers the other set's; and a table that holds one row twice, where the same happens without a null. Computed in proofs/Worked. Assumes nothing.
 use Prim.Native.Nat.{ℕ}
 use mathlib.Core.Path.{_≡_}
 use mathlib.Core.Logic.{_↔_}
 use mathlib.Core.Bool.{true, false}
 use mathlib.Core.List.{List, [], _∷_, List·Memᴰ}
-use lib.ListN.{length}
+use lib.ListN.{length, getD}
 use Rattle.tables.specs.declared.Catalogue.{Catalogue}
 use Rattle.tables.specs.Checks.{Lawful}
+use Rattle.tables.specs.Sample.{three, threeCells}
 use Rattle.disjunction.specs.Sets.{Maximal}
 use Rattle.disjunction.specs.Cells.{padded}
 use Rattle.rows.specs.World.{cellsIn, worldOf}
@@ -16,7 +17,37 @@ use Rattle.loader.specs.Reading.{refusalAt}
 use Rattle.loader.specs.Load.{firstTable, refused, scanOf, tablesCodes}
 use Rattle.writer.specs.Write.{imageOf, writeFault}
 use Rattle.image.specs.RoundTrip.{found}
+use Rattle.facts.specs.Filing.{Renumbering, renumbered, reordered, reorderedCells}
 use Rattle.facts.specs.Front.{NoNulls}
+
+-- ---- the sample in another order
+
+-- Its last table comes first: new tables 0, 1, 2 are the old tables 2, 0, 1.
+abbrev pub turnedFrom : ℕ → ℕ
+turnedFrom u = getD (2 ∷ 0 ∷ 1 ∷ []) u 0
+
+abbrev pub turnedTo : ℕ → ℕ
+turnedTo t = getD (1 ∷ 2 ∷ 0 ∷ []) t 0
+
+-- The catalogue and the cells in this order, and the three sets under the new numbers.
+pub record SampleTurned : Type 0 where
+  pub numbers : Renumbering 3 turnedTo turnedFrom
+  pub catalogue : reordered turnedFrom three ≡ record {
+        m = 3;
+        n = 3;
+        schemes = 5 ∷ 3 ∷ 6 ∷ 0 ∷ 0 ∷ 0 ∷ 0 ∷ 0 ∷ [];
+        rows = 2 ∷ 2 ∷ 2 ∷ 0 ∷ 0 ∷ 0 ∷ 0 ∷ 0 ∷ [];
+        places = 0 ∷ 4 ∷ 8 ∷ 0 ∷ 0 ∷ 0 ∷ 0 ∷ 0 ∷ [];
+        touching = 6 ∷ 5 ∷ 3 ∷ 0 ∷ 0 ∷ 0 ∷ 0 ∷ 0 ∷ [];
+      }
+  pub cells : reorderedCells turnedFrom three threeCells ≡ 2 ∷ 8 ∷ 3 ∷ 0 ∷ 2 ∷ 11 ∷ 3 ∷ 21 ∷ 11 ∷ 8 ∷ 4294967307 ∷ 10 ∷ []
+  pub first : renumbered 3 turnedFrom (1 ∷ 1 ∷ 1 ∷ []) ≡ 1 ∷ 1 ∷ 1 ∷ []
+  pub second : renumbered 3 turnedFrom (2 ∷ 0 ∷ 2 ∷ []) ≡ 2 ∷ 2 ∷ 0 ∷ []
+  pub third : renumbered 3 turnedFrom (0 ∷ 2 ∷ 0 ∷ []) ≡ 0 ∷ 0 ∷ 2 ∷ []
+  pub sets : (T : List ℕ) → Maximal (worldOf (reordered turnedFrom three) (reorderedCells turnedFrom three threeCells)) T
+      ↔ List·Memᴰ T ((1 ∷ 1 ∷ 1 ∷ []) ∷ (2 ∷ 2 ∷ 0 ∷ []) ∷ (0 ∷ 0 ∷ 2 ∷ []) ∷ [])
+
+-- ---- a pair with a null
 
 -- "A worked pair of one-row tables": both over attributes 0 and 1, with the rows (1, 2) and (1, null).
 unfoldable pub pair : Catalogue
@@ -45,6 +76,8 @@ pub record NullCovered : Type 0 where
   pub rows : (padded (cellsIn pair pairCells) (1 ∷ 0 ∷ []) ≡ 2 ∷ 3 ∷ []) × (padded (cellsIn pair pairCells) (0 ∷ 1 ∷ []) ≡ 2 ∷ 0 ∷ [])
   pub covers : covering (2 ∷ 3 ∷ []) (2 ∷ 0 ∷ []) ≡ true
   pub other-way : covering (2 ∷ 0 ∷ []) (2 ∷ 3 ∷ []) ≡ false
+
+-- ---- one row twice
 
 -- One table over attribute 0 that holds the row (1) twice.
 unfoldable pub twice : Catalogue
