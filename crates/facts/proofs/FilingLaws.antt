@@ -160,7 +160,8 @@ module _ (W X : Tables) (to from : ℕ → ℕ) (F : Refiled W X to from) where
     maximal-there W X to from F T,
     λ x.
         let U = renumbered (W .n) from T in
-        let y : Maximal W (renumbered (W .n) to U) = subst (λ (c : ℕ). Maximal W (renumbered c to U)) (F .many) (maximal-there X W from to (back W X to from F) U x) in
+        let y : Maximal W (renumbered (W .n) to U) =
+        subst (λ (c : ℕ). Maximal W (renumbered c to U)) (F .many) (maximal-there X W from to (back W X to from F) U x) in
         subst (Maximal W) (renumbered-back (W .n) to from (F .numbers) T e) y,
   )
 
@@ -170,8 +171,12 @@ module _ (C D : Cells) (to from : ℕ → ℕ) (F : RefiledCells C D to from) wh
   sharing-there : (t u : ℕ) → t < C .n → u < C .n → sharing D (to t) (to u) ≡ sharing C t u
   sharing-there t u k l =
       iff-eq (sharing D (to t) (to u)) (sharing C t u)
-      (λ y. let (a, b, p, q) = sharing-iff D (to t) (to u) .0 y in sharing-iff C t u .1 (a, omega (arith, F .wide, b), sym (F .scheme t a k) ∙ p, sym (F .scheme u a l) ∙ q))
-      (λ y. let (a, b, p, q) = sharing-iff C t u .0 y in sharing-iff D (to t) (to u) .1 (a, omega (arith, F .wide, b), F .scheme t a k ∙ p, F .scheme u a l ∙ q))
+      (λ y.
+      let (a, b, p, q) = sharing-iff D (to t) (to u) .0 y in
+      sharing-iff C t u .1 (a, omega (arith, F .wide, b), sym (F .scheme t a k) ∙ p, sym (F .scheme u a l) ∙ q))
+      (λ y.
+      let (a, b, p, q) = sharing-iff C t u .0 y in
+      sharing-iff D (to t) (to u) .1 (a, omega (arith, F .wide, b), F .scheme t a k ∙ p, F .scheme u a l ∙ q))
 
   matching-there : (t r u q : ℕ) → Row (tables C) t r → Row (tables C) u q → matching D (to t) r (to u) q ≡ matching C t r u q
   matching-there t r u q i j =

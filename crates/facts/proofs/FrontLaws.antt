@@ -63,7 +63,8 @@ module _ (C : Cells) (plain : NoNulls C) (filed : Filed C) (T U : List ℕ) (x :
         go : (any (C .n) (gives C T a) ≡ true) ⊎ (any (C .n) (gives C T a) ≡ false) → (u : ℕ) × Member T u × (C .has u a ≡ true)
         go (inl e) = let (u, b, g) = any-some (C .n) (gives C T a) e in let z = gives-iff C T a u .0 g in (u, z .0, z .1)
         go (inr e) =
-            let z = first .null a l (λ u k p. clash (any-of (C .n) (gives C T a) u (member-row (tables C) T (x .jcc .valid) u k .table) (gives-iff C T a u .1 (k, p))) e) in
+            let z = first .null a l
+            (λ u k p. clash (any-of (C .n) (gives C T a) u (member-row (tables C) T (x .jcc .valid) u k .table) (gives-iff C T a u .1 (k, p))) e) in
             absurd (omega (arith, z, code a l h .0, code a l h .1))
 
     -- It could be added to T, if its table were absent.
@@ -90,6 +91,7 @@ module _ (C : Cells) (plain : NoNulls C) (filed : Filed C) (T U : List ℕ) (x :
       (eq-zero-or-pos (at T t)))
 
 -- "If no table holds a null, no handed-out padded row covers another set's."
-pub none-covered : (C : Cells) → NoNulls C → Filed C → (T U : List ℕ) → Maximal (tables C) T → Maximal (tables C) U → T ≢ U → covering (padded C T) (padded C U) ≡ false
+pub none-covered : (C : Cells) → NoNulls C → Filed C → (T U : List ℕ) → Maximal (tables C) T → Maximal (tables C) U → T ≢ U
+    → covering (padded C T) (padded C U) ≡ false
 none-covered C plain filed T U x y d =
     not-yes (covering (padded C T) (padded C U)) (λ e. d (covered-same C plain filed T U x y (covering-iff (padded C T) (padded C U) .0 e)))

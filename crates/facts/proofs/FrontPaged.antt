@@ -4,7 +4,7 @@ use Prim.Native.Nat.{ℕ, _≤_, _<_}
 use native.Mathlib.Omega.{arith}
 use native.Mathlib.Decide.{decLt}
 use mathlib.Core.Path.{_≡_, refl, sym, ap, subst, subst₂, _∙_}
-use mathlib.Core.Logic.{_⊎_, inl, inr, ⊎-elim}
+use mathlib.Core.Logic.{⊎-elim}
 use mathlib.Core.List.{List, [], _∷_, _++_, List·Memᴰ, List·Memᴰ·head, List·Memᴰ·tail, List·Memᴰ·not-nil, List·Memᴰ·cases-cons, Memᴰ·append-right}
 use lib.ListN.{length, getD, take}
 use Rattle.laws.specs.Distinct.{Distinct}
@@ -143,9 +143,10 @@ module _ (cat : Catalogue) (cells : List ℕ) (l : List Called) (D : Drained cat
   drained-shown =
       record {
         only = λ T row o.
-            let k = o .by .key in
-            (subst (Maximal (worldOf cat cells)) (o .names) (key-set k (key-handed l (o .by) (o .among) (o .says)) .0),
-            sym (o .pads) ∙ row-out (o .by) (o .among) (o .says) ∙ ap (padded (cellsIn cat cells)) (o .names));
+            let k = o .by .key in (
+              subst (Maximal (worldOf cat cells)) (o .names) (key-set k (key-handed l (o .by) (o .among) (o .says)) .0),
+              sym (o .pads) ∙ row-out (o .by) (o .among) (o .says) ∙ ap (padded (cellsIn cat cells)) (o .names),
+            );
         every = λ T x.
             let (s, m, e, f) = handed-key l (keyOf bitsPerRow T) (set-key T x) in
             let n : setOf cat (s .key) ≡ T = ap (setOf cat) f ∙ demand .named T x in
@@ -222,7 +223,8 @@ module _ (cat : Catalogue) (cells lent : List ℕ) (to from : ℕ → ℕ) (h : 
       record {
         there = λ T row o.
             let (x, e) = old .only T row o in
-            subst (Out moved l′ (renumbered (cat .n) from T)) (moved-padded cat cells to from h L lent T x ∙ sym e) (other .every (renumbered (cat .n) from T) (there T x));
+            subst (Out moved l′ (renumbered (cat .n) from T)) (moved-padded cat cells to from h L lent T x ∙ sym e)
+            (other .every (renumbered (cat .n) from T) (there T x));
         back = λ U row o.
             let (y, e) = other .only U row o in
             let T = renumbered (cat .n) to U in
@@ -232,11 +234,13 @@ module _ (cat : Catalogue) (cells lent : List ℕ) (to from : ℕ → ℕ) (h : 
             subst (Out cat l T) p (old .every T x);
         again = λ T row o. again T (old .only T row o .0);
         again′ = λ U row o. again′ U (other .only U row o .0);
-        many = omega (arith,
-            fewer-sets cat cells l D moved new l′ D′ (renumbered (cat .n) from) there
-            (λ T U x y e. sym (again T x) ∙ ap (renumbered (cat .n) to) e ∙ again U y),
-            fewer-sets moved new l′ D′ cat cells l D (renumbered (cat .n) to) back
-            (λ T U x y e. sym (again′ T x) ∙ ap (renumbered (cat .n) from) e ∙ again′ U y));
+        many = omega (
+          arith,
+          fewer-sets cat cells l D moved new l′ D′ (renumbered (cat .n) from) there
+              (λ T U x y e. sym (again T x) ∙ ap (renumbered (cat .n) to) e ∙ again U y),
+          fewer-sets moved new l′ D′ cat cells l D (renumbered (cat .n) to) back
+              (λ T U x y e. sym (again′ T x) ∙ ap (renumbered (cat .n) from) e ∙ again′ U y),
+        );
       }
     where
       old : Shown cat cells l
@@ -274,15 +278,17 @@ front-page =
       null-out = λ l D.
           let S = drained-shown pair pairCells l D in
           let set = null-covered .sets in
-          let rows = null-covered .rows in
-          (subst (Out pair l (1 ∷ 0 ∷ [])) (rows .0) (S .every (1 ∷ 0 ∷ []) (set (1 ∷ 0 ∷ []) .1 (List·Memᴰ·head refl))),
-          subst (Out pair l (0 ∷ 1 ∷ [])) (rows .1) (S .every (0 ∷ 1 ∷ []) (set (0 ∷ 1 ∷ []) .1 (List·Memᴰ·tail (List·Memᴰ·head refl)))));
+          let rows = null-covered .rows in (
+            subst (Out pair l (1 ∷ 0 ∷ [])) (rows .0) (S .every (1 ∷ 0 ∷ []) (set (1 ∷ 0 ∷ []) .1 (List·Memᴰ·head refl))),
+            subst (Out pair l (0 ∷ 1 ∷ [])) (rows .1) (S .every (0 ∷ 1 ∷ []) (set (0 ∷ 1 ∷ []) .1 (List·Memᴰ·tail (List·Memᴰ·head refl)))),
+          );
       twice-covers = twice-covered;
       twice-opens = opens-taken twice twiceCells (twice-covered .lawful);
       twice-out = λ l D.
           let S = drained-shown twice twiceCells l D in
           let set = twice-covered .sets in
-          let rows = twice-covered .rows in
-          (subst (Out twice l (1 ∷ [])) (rows .0) (S .every (1 ∷ []) (set (1 ∷ []) .1 (List·Memᴰ·head refl))),
-          subst (Out twice l (2 ∷ [])) (rows .1) (S .every (2 ∷ []) (set (2 ∷ []) .1 (List·Memᴰ·tail (List·Memᴰ·head refl)))));
+          let rows = twice-covered .rows in (
+            subst (Out twice l (1 ∷ [])) (rows .0) (S .every (1 ∷ []) (set (1 ∷ []) .1 (List·Memᴰ·head refl))),
+            subst (Out twice l (2 ∷ [])) (rows .1) (S .every (2 ∷ []) (set (2 ∷ []) .1 (List·Memᴰ·tail (List·Memᴰ·head refl)))),
+          );
     }

@@ -5,7 +5,7 @@ use native.Mathlib.Omega.{arith}
 use native.Mathlib.Decide.{decLt}
 use mathlib.Core.Path.{_≡_, sym, ap, ap₂, subst, _∙_}
 use mathlib.Core.List.{List, [], _++_, append-nil}
-use lib.ListN.{length, getD, take, drop, replicate, length-append, length-replicate, getD-replicate, drop-of-length-le, List·getD-append}
+use lib.ListN.{length, getD, take, replicate, length-append, length-replicate, getD-replicate, drop-of-length-le, List·getD-append}
 use lib.Seq.{length-take-le, getD-take, getD-append-add, ext-getD, take-length}
 use Rattle.laws.specs.Lists.{put}
 use Rattle.tables.specs.declared.Catalogue.{Catalogue}

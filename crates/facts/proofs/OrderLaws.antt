@@ -2,12 +2,11 @@
 -- and their padded rows are the same. Tables that are accepted stay accepted. What carries the proof: a cell's place in its table stays. Assumes nothing.
 use Prim.Native.Nat.{ℕ, zero, suc, _+_, _-_, _*_, _%_, _^_, _≤_, _<_}
 use native.Mathlib.Omega.{arith}
-use native.Mathlib.Numerals.{add-one}
 use mathlib.Core.Path.{_≡_, refl, sym, ap, subst, subst₂, _∙_}
 use mathlib.Core.Logic.{⊎-elim, _↔_}
 use mathlib.Core.Bool.{true}
 use mathlib.Core.List.{List, _++_}
-use lib.ListN.{length, getD, drop, length-append, length-drop, List·getD-append}
+use lib.ListN.{length, getD, drop, length-append, List·getD-append}
 use lib.Seq.{getD-append-add, getD-take, getD-drop, ext-getD}
 use lib.Count.{ones}
 use Rattle.laws.specs.Lists.{part}
@@ -15,11 +14,9 @@ use Rattle.laws.proofs.ListLaws.{length-part}
 use Rattle.laws.proofs.TestLaws.{below-suc}
 use Rattle.words.specs.Words.{bitOf}
 use Rattle.tables.specs.declared.Catalogue.{Catalogue}
-use Rattle.tables.specs.Sizes.{mostCells}
 use Rattle.tables.specs.Catalogues.{schemeOf, countOf, firstCell, rowStart, codeOf, forTables, given}
 use Rattle.tables.specs.Checks.{Lawful}
 use Rattle.tables.proofs.CatalogueLaws.{cells-next, cells-mono, table-ends, row-ends, row-inside}
-use Rattle.tables.proofs.CheckLaws.{Shaped}
 use Rattle.tables.proofs.StoredLaws.{for-at, filled-first, filled-lawful}
 use Rattle.disjunction.specs.Sets.{Tables, Row, Maximal}
 use Rattle.disjunction.specs.Cells.{tables, padded}
@@ -94,8 +91,12 @@ module _ (cat : Catalogue) (cells : List ℕ) (to from : ℕ → ℕ) (h : Renum
   to-long zero l = refl
   to-long (suc k) l =
       length-append (reorderedTo k from cat cells) (cellsOf cat cells (from k))
-      ∙ rw (to-long k (omega arith), length-part (firstCell cat (from k)) (cellsOfTable cat (from k)) cells (table-room (from k) (h .from-lt k (omega arith))),
-      scheme-moved k (omega arith), count-moved k (omega arith))
+      ∙ rw (
+        to-long k (omega arith),
+        length-part (firstCell cat (from k)) (cellsOfTable cat (from k)) cells (table-room (from k) (h .from-lt k (omega arith))),
+        scheme-moved k (omega arith),
+        count-moved k (omega arith),
+      )
 
   -- Cell i of a table is the same cell in the new order.
   to-cell : (k u i : ℕ) → k ≤ cat .n → u < k → i < cellsOfTable cat (from u)
@@ -175,7 +176,8 @@ module _ (cat : Catalogue) (cells : List ℕ) (to from : ℕ → ℕ) (h : Renum
     pub moved-maximal : (T : List ℕ) → length T ≡ cat .n → Maximal (worldOf cat cells) T ↔ Maximal (worldOf moved new) (renumbered (cat .n) from T)
     moved-maximal T e =
         subst₂ (λ (W X : Tables). Maximal W T ↔ Maximal X (renumbered (cat .n) from T)) (sym (world-tables cat cells)) (sym (world-tables moved new))
-        (refiled-maximal (tables (cellsIn cat cells)) (tables (cellsIn moved new)) to from (cells-refiled (cellsIn cat cells) (cellsIn moved new) to from moved-cells) T e)
+        (refiled-maximal (tables (cellsIn cat cells)) (tables (cellsIn moved new)) to from
+        (cells-refiled (cellsIn cat cells) (cellsIn moved new) to from moved-cells) T e)
 
     -- every one of the new maximal sets is one of these;
     pub maximal-moved : (U : List ℕ) → Maximal (worldOf moved new) U

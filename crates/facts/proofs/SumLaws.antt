@@ -5,10 +5,10 @@ use native.Mathlib.Omega.{arith}
 use native.Mathlib.Decide.{ℕ-discrete}
 use mathlib.Core.Path.{_≡_, refl, sym, ap, _∙_}
 use mathlib.Core.Logic.{_≢_, ⊎-elim}
-use mathlib.Core.Bool.{Bool, cond}
+use mathlib.Core.Bool.{cond}
 use lib.Dec.{eqb}
-use borrow.Author.Tests.{eqb-true, eq-eqb, ne-eqb}
-use Rattle.laws.proofs.TestLaws.{iff-eq, below-suc}
+use borrow.Author.Tests.{eq-eqb, ne-eqb}
+use Rattle.laws.proofs.TestLaws.{below-suc}
 use Rattle.facts.specs.Filing.{Renumbering}
 
 -- The sum of the first k values of f.

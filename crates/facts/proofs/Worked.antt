@@ -3,19 +3,22 @@ use Prim.Native.Nat.{ℕ, zero, suc, _<_}
 use native.Mathlib.Omega.{arith}
 use native.Mathlib.Decide.{ℕ-discrete}
 use mathlib.Core.Path.{_≡_, refl}
-use mathlib.Core.List.{List, [], _∷_}
+use mathlib.Core.Logic.{_↔_}
+use mathlib.Core.List.{List, [], _∷_, List·Memᴰ}
 use lib.ListN.{length, getD}
 use lib.Count.{ones, onesIn}
 use Rattle.laws.specs.Tests.{any, all}
 use Rattle.laws.specs.Lists.{tab}
 use Rattle.words.specs.Words.{bitOf}
 use Rattle.numbers.specs.Numbers.{encode, decode}
+use Rattle.tables.specs.declared.Catalogue.{Catalogue}
 use Rattle.tables.specs.Rows.{below}
 use Rattle.tables.specs.Catalogues.{firstCell, rowStart, touch, touchingBelow, forTables}
 use Rattle.tables.specs.Checks.{Lawful, sizeFault, badScheme, countFault, tableFault, tablesFault, shapeFault, misstored, storedFault, catalogueFault}
 use Rattle.tables.specs.Sample.{three, threeCells}
 use Rattle.tables.proofs.CheckLaws.{fault-lawful}
-use Rattle.disjunction.specs.Rule.{rowsTo, rowsBelow, rowAt, member, absent, near, agrees, rowTest, walk, grow, extension, stays, dropped, alone, joins, membersBelow, piece, start, trial}
+use Rattle.disjunction.specs.Sets.{Tables, Maximal}
+use Rattle.disjunction.specs.Rule.{rowsTo, rowsBelow, member, absent, near, agrees, rowTest, walk, grow, extension, stays, dropped, alone, joins, membersBelow, piece, start, trial}
 use Rattle.disjunction.specs.Cells.{same, sharing, matching, gives, codeBelow, padded}
 use Rattle.disjunction.specs.Asked.{everySet}
 use Rattle.disjunction.specs.Keeping.{sameDec, sets-discrete, decMemᴰ, stored, keep, keepIf, take, try, listOpen, listMove, listMoves}
@@ -28,14 +31,21 @@ use Rattle.loader.specs.Load.{firstTable, refused, fieldAt, countAt, tableAt, t
 use Rattle.writer.specs.Write.{encodes, tablesImage, imageOf, tooHigh, rowsFault, cellsFault, writeFault}
 use Rattle.image.specs.RoundTrip.{found}
 use Rattle.facts.specs.Filing.{renumbered, reordered, reorderedTo, reorderedCells}
-use Rattle.facts.specs.Worked.{turnedFrom, turnedTo, SampleTurned, pair, pairCells, pairBytes, NullCovered, twice, twiceCells, twiceBytes, TwiceCovered}
+use Rattle.facts.specs.Worked.{turnedFrom, turnedTo, turnedSets, SampleTurned, pair, pairCells, pairBytes, pairSets, NullCovered, twice, twiceCells, twiceBytes, twiceSets, TwiceCovered}
 use Rattle.facts.proofs.FiledLaws.{values-no-nulls}
+
+-- The stream of the rule is at its end after so many trials and sets handed out, and has found the sets of l in this order.
+abbrev Found : Tables → ℕ → List (List ℕ) → Type 0
+Found W k l = listMoves W everySet k (listOpen W everySet) ≡ ended W l
+
+-- They are all the maximal sets.
+found-all : (cat : Catalogue) (cells : List ℕ) (k : ℕ) (l : List (List ℕ)) → Found (worldOf cat cells) k l → 0 < length l
+    → (T : List ℕ) → Maximal (worldOf cat cells) T ↔ List·Memᴰ T l
+found-all cat cells k l e some T = drained-all (worldOf cat cells) everySet (world-symmetric cat cells) tt k l e some T
 
 -- ---- the sample in another order
 
-turned-drained : listMoves (worldOf (reordered turnedFrom three) (reorderedCells turnedFrom three threeCells)) everySet 21
-    (listOpen (worldOf (reordered turnedFrom three) (reorderedCells turnedFrom three threeCells)) everySet)
-    ≡ ended (worldOf (reordered turnedFrom three) (reorderedCells turnedFrom three threeCells)) ((1 ∷ 1 ∷ 1 ∷ []) ∷ (2 ∷ 2 ∷ 0 ∷ []) ∷ (0 ∷ 0 ∷ 2 ∷ []) ∷ [])
+turned-drained : Found (worldOf (reordered turnedFrom three) (reorderedCells turnedFrom three threeCells)) 21 turnedSets
 unfolding three threeCells reorderedTo forTables firstCell rowStart bitOf ones onesIn touchesIn fitsIn listMoves listMove listOpen try take keepIf keep stored decMemᴰ sets-discrete sameDec ℕ-discrete trial start piece joins membersBelow dropped stays tab extension grow walk rowTest near agrees absent member rowsBelow rowsTo alone sharing matching same any all
 turned-drained = refl
 
@@ -49,9 +59,7 @@ sample-turned =
       first = refl;
       second = refl;
       third = refl;
-      sets = λ T. drained-all (worldOf (reordered turnedFrom three) (reorderedCells turnedFrom three threeCells)) everySet
-          (world-symmetric (reordered turnedFrom three) (reorderedCells turnedFrom three threeCells)) tt 21
-          ((1 ∷ 1 ∷ 1 ∷ []) ∷ (2 ∷ 2 ∷ 0 ∷ []) ∷ (0 ∷ 0 ∷ 2 ∷ []) ∷ []) turned-drained (omega arith) T;
+      sets = found-all (reordered turnedFrom three) (reorderedCells turnedFrom three threeCells) 21 turnedSets turned-drained (omega arith);
     }
   where
     -- What holds of 0, 1 and 2 holds below 3.
@@ -73,20 +81,11 @@ sample-turned =
     to-from : (u : ℕ) → u < 3 → turnedTo (turnedFrom u) ≡ u
     to-from = three-of (λ u. turnedTo (turnedFrom u) ≡ u) refl refl refl
 
--- ---- the sets of the two others
+-- ---- the pair with a null
 
--- The stream over both is at its end after its trials and a step for each set, and has found these sets.
-pair-drained : listMoves (worldOf pair pairCells) everySet 6 (listOpen (worldOf pair pairCells) everySet)
-    ≡ ended (worldOf pair pairCells) ((1 ∷ 0 ∷ []) ∷ (0 ∷ 1 ∷ []) ∷ [])
+pair-drained : Found (worldOf pair pairCells) 6 pairSets
 unfolding pair pairCells firstCell rowStart bitOf ones onesIn touchesIn fitsIn listMoves listMove listOpen try take keepIf keep stored decMemᴰ sets-discrete sameDec ℕ-discrete trial start piece joins membersBelow dropped stays tab extension grow walk rowTest near agrees absent member rowsBelow rowsTo alone sharing matching same any all
 pair-drained = refl
-
-twice-drained : listMoves (worldOf twice twiceCells) everySet 6 (listOpen (worldOf twice twiceCells) everySet)
-    ≡ ended (worldOf twice twiceCells) ((1 ∷ []) ∷ (2 ∷ []) ∷ [])
-unfolding twice twiceCells firstCell rowStart bitOf ones onesIn touchesIn fitsIn listMoves listMove listOpen try take keepIf keep stored decMemᴰ sets-discrete sameDec ℕ-discrete trial start piece joins membersBelow dropped stays tab extension grow walk rowTest near agrees absent member rowsBelow rowsTo alone sharing matching same any all
-twice-drained = refl
-
--- ---- the pair with a null
 
 pair-loads : (scanOf pairBytes 4 ≡ found pair) × (tablesCodes 2 pairBytes firstTable ≡ pairCells)
 unfolding pairBytes pair pairCells decode ones onesIn firstCell touch touchingBelow forTables tab badScheme countFault below runEnd codes rowsFrom fieldAt countAt tableAt tablesFrom scanOf tablesCodes
@@ -101,13 +100,17 @@ unfolding covering keeps all
 null-covered =
     record {
       loads = pair-loads;
-      sets = λ T. drained-all (worldOf pair pairCells) everySet (world-symmetric pair pairCells) tt 6 ((1 ∷ 0 ∷ []) ∷ (0 ∷ 1 ∷ []) ∷ []) pair-drained (omega arith) T;
+      sets = found-all pair pairCells 6 pairSets pair-drained (omega arith);
       rows = pair-rows;
       covers = refl;
       other-way = refl;
     }
 
 -- ---- one row twice
+
+twice-drained : Found (worldOf twice twiceCells) 6 twiceSets
+unfolding twice twiceCells firstCell rowStart bitOf ones onesIn touchesIn fitsIn listMoves listMove listOpen try take keepIf keep stored decMemᴰ sets-discrete sameDec ℕ-discrete trial start piece joins membersBelow dropped stays tab extension grow walk rowTest near agrees absent member rowsBelow rowsTo alone sharing matching same any all
+twice-drained = refl
 
 twice-clear : catalogueFault twice (length twiceCells) ≡ 0
 unfolding twice twiceCells firstCell touch touchingBelow ones onesIn sizeFault badScheme countFault tableFault tablesFault shapeFault misstored storedFault catalogueFault any
@@ -139,7 +142,7 @@ twice-covered =
       image = twice-refused .1;
       unloaded = twice-refused .2;
       no-nulls = values-no-nulls twice twiceCells (length twiceCells) twice-lawful twice-values;
-      sets = λ T. drained-all (worldOf twice twiceCells) everySet (world-symmetric twice twiceCells) tt 6 ((1 ∷ []) ∷ (2 ∷ []) ∷ []) twice-drained (omega arith) T;
+      sets = found-all twice twiceCells 6 twiceSets twice-drained (omega arith);
       rows = twice-rows;
       covers = refl;
     }

@@ -29,23 +29,27 @@ turnedFrom u = getD (2 ∷ 0 ∷ 1 ∷ []) u 0
 abbrev pub turnedTo : ℕ → ℕ
 turnedTo t = getD (1 ∷ 2 ∷ 0 ∷ []) t 0
 
+-- The sample's sets under the new numbers.
+abbrev pub turnedSets : List (List ℕ)
+turnedSets = (1 ∷ 1 ∷ 1 ∷ []) ∷ (2 ∷ 2 ∷ 0 ∷ []) ∷ (0 ∷ 0 ∷ 2 ∷ []) ∷ []
+
 -- The catalogue and the cells in this order, and the three sets under the new numbers.
 pub record SampleTurned : Type 0 where
   pub numbers : Renumbering 3 turnedTo turnedFrom
   pub catalogue : reordered turnedFrom three ≡ record {
-        m = 3;
-        n = 3;
-        schemes = 5 ∷ 3 ∷ 6 ∷ 0 ∷ 0 ∷ 0 ∷ 0 ∷ 0 ∷ [];
-        rows = 2 ∷ 2 ∷ 2 ∷ 0 ∷ 0 ∷ 0 ∷ 0 ∷ 0 ∷ [];
-        places = 0 ∷ 4 ∷ 8 ∷ 0 ∷ 0 ∷ 0 ∷ 0 ∷ 0 ∷ [];
-        touching = 6 ∷ 5 ∷ 3 ∷ 0 ∷ 0 ∷ 0 ∷ 0 ∷ 0 ∷ [];
-      }
+    m = 3;
+    n = 3;
+    schemes = 5 ∷ 3 ∷ 6 ∷ 0 ∷ 0 ∷ 0 ∷ 0 ∷ 0 ∷ [];
+    rows = 2 ∷ 2 ∷ 2 ∷ 0 ∷ 0 ∷ 0 ∷ 0 ∷ 0 ∷ [];
+    places = 0 ∷ 4 ∷ 8 ∷ 0 ∷ 0 ∷ 0 ∷ 0 ∷ 0 ∷ [];
+    touching = 6 ∷ 5 ∷ 3 ∷ 0 ∷ 0 ∷ 0 ∷ 0 ∷ 0 ∷ [];
+  }
   pub cells : reorderedCells turnedFrom three threeCells ≡ 2 ∷ 8 ∷ 3 ∷ 0 ∷ 2 ∷ 11 ∷ 3 ∷ 21 ∷ 11 ∷ 8 ∷ 4294967307 ∷ 10 ∷ []
   pub first : renumbered 3 turnedFrom (1 ∷ 1 ∷ 1 ∷ []) ≡ 1 ∷ 1 ∷ 1 ∷ []
   pub second : renumbered 3 turnedFrom (2 ∷ 0 ∷ 2 ∷ []) ≡ 2 ∷ 2 ∷ 0 ∷ []
   pub third : renumbered 3 turnedFrom (0 ∷ 2 ∷ 0 ∷ []) ≡ 0 ∷ 0 ∷ 2 ∷ []
   pub sets : (T : List ℕ) → Maximal (worldOf (reordered turnedFrom three) (reorderedCells turnedFrom three threeCells)) T
-      ↔ List·Memᴰ T ((1 ∷ 1 ∷ 1 ∷ []) ∷ (2 ∷ 2 ∷ 0 ∷ []) ∷ (0 ∷ 0 ∷ 2 ∷ []) ∷ [])
+      ↔ List·Memᴰ T turnedSets
 
 -- ---- a pair with a null
 
@@ -69,10 +73,14 @@ pairCells = 2 ∷ 3 ∷ 2 ∷ 0 ∷ []
 unfoldable pub pairBytes : List ℕ
 pairBytes = 0x01 ∷ 0x02 ∷ 0x02 ∷ 0x03 ∷ 0x01 ∷ 0x02 ∷ 0x03 ∷ 0x03 ∷ 0x01 ∷ 0x02 ∷ 0x00 ∷ []
 
+-- Their sets: each row is one of its own.
+abbrev pub pairSets : List (List ℕ)
+pairSets = (1 ∷ 0 ∷ []) ∷ (0 ∷ 1 ∷ []) ∷ []
+
 -- "The last fails with nulls": each row is a set of its own, since null matches nothing, and (1, 2) covers (1, null).
 pub record NullCovered : Type 0 where
   pub loads : (scanOf pairBytes 4 ≡ found pair) × (tablesCodes 2 pairBytes firstTable ≡ pairCells)
-  pub sets : (T : List ℕ) → Maximal (worldOf pair pairCells) T ↔ List·Memᴰ T ((1 ∷ 0 ∷ []) ∷ (0 ∷ 1 ∷ []) ∷ [])
+  pub sets : (T : List ℕ) → Maximal (worldOf pair pairCells) T ↔ List·Memᴰ T pairSets
   pub rows : (padded (cellsIn pair pairCells) (1 ∷ 0 ∷ []) ≡ 2 ∷ 3 ∷ []) × (padded (cellsIn pair pairCells) (0 ∷ 1 ∷ []) ≡ 2 ∷ 0 ∷ [])
   pub covers : covering (2 ∷ 3 ∷ []) (2 ∷ 0 ∷ []) ≡ true
   pub other-way : covering (2 ∷ 0 ∷ []) (2 ∷ 3 ∷ []) ≡ false
@@ -99,6 +107,10 @@ twiceCells = 2 ∷ 2 ∷ []
 unfoldable pub twiceBytes : List ℕ
 twiceBytes = 0x01 ∷ 0x01 ∷ 0x01 ∷ 0x01 ∷ 0x02 ∷ 0x02 ∷ 0x02 ∷ []
 
+-- Its sets: each row is one.
+abbrev pub twiceSets : List (List ℕ)
+twiceSets = (1 ∷ []) ∷ (2 ∷ []) ∷ []
+
 -- Why the third fact asks for tables that the loader accepts: each of the two rows is a set, their padded row is one, and no table holds a null.
 pub record TwiceCovered : Type 0 where
   -- Nothing that open looks at is wrong with it,
@@ -108,6 +120,6 @@ pub record TwiceCovered : Type 0 where
   pub image : imageOf twice twiceCells ≡ twiceBytes
   pub unloaded : scanOf twiceBytes 2 ≡ refused (refusalAt 7 6 0)
   pub no-nulls : NoNulls (cellsIn twice twiceCells)
-  pub sets : (T : List ℕ) → Maximal (worldOf twice twiceCells) T ↔ List·Memᴰ T ((1 ∷ []) ∷ (2 ∷ []) ∷ [])
+  pub sets : (T : List ℕ) → Maximal (worldOf twice twiceCells) T ↔ List·Memᴰ T twiceSets
   pub rows : (padded (cellsIn twice twiceCells) (1 ∷ []) ≡ 2 ∷ []) × (padded (cellsIn twice twiceCells) (2 ∷ []) ≡ 2 ∷ [])
   pub covers : covering (2 ∷ []) (2 ∷ []) ≡ true
