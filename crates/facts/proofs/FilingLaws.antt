@@ -23,7 +23,7 @@ use Rattle.facts.specs.Filing.{Renumbering, Refiled, renumbered, Refiled
 module _ (n : ℕ) (from : ℕ → ℕ) (T : List ℕ) where
   pub renumbered-long : length (renumbered n from T) ≡ n
   unfolding renumbered
-  renumbered-long = length-tab n (λ u. at T (from u))
+  renumbered-long = length-tab n _
 
   pub renumbered-at : (u : ℕ) → u < n → at (renumbered n from T) u ≡ at T (from u)
   unfolding renumbered
