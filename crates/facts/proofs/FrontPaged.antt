@@ -33,7 +33,7 @@ use Rattle.writer.specs.Write.{Accepted}
 use Rattle.image.proofs.RoundTrip.{loads-accepted}
 use Rattle.facts.specs.Filing.{Renumbering, renumbered, reordered, reorderedIn}
 use Rattle.facts.specs.Worked.{pair, pairCells, twice, twiceCells}
-use Rattle.facts.specs.FrontPage.{OpenCall, recordsOf, streamOf, Drained, Out, Shown, SameSets, GoodLoad, FrontPage}
+use Rattle.facts.specs.FrontPage.{Beginning, recordsOf, streamOf, Drained, Out, Shown, SameSets, GoodLoad, FrontPage}
 use Rattle.facts.proofs.FilingLaws.{renumbered-back}
 use Rattle.facts.proofs.OrderLaws.{moved-maximal, maximal-moved, moved-padded}
 use Rattle.facts.proofs.OrderImages.{moved-loads}
@@ -87,7 +87,7 @@ handed-key (u ∷ l) k m = go (u .says) refl m (handed-key l k)
 -- ---- what comes out
 
 -- Where open refused nothing the tables are lawful, and demand 2 holds of the calls after it.
-module _ (cat : Catalogue) (cells : List ℕ) (o : OpenCall cat cells) (free : o .answer .refusal ≡ 0) where
+module _ (cat : Catalogue) (cells : List ℕ) (o : Beginning cat cells) (free : o .answer .refusal ≡ 0) where
   open-free : opening cat cells (o .keys) (o .left) (o .right) .refusal ≡ 0
   open-free = sym (ap (λ (x : Opened). x .refusal) (o .opens)) ∙ free
 
@@ -100,7 +100,7 @@ module _ (cat : Catalogue) (cells : List ℕ) (o : OpenCall cat cells) (free : o
       (demands cat cells everySet (o .keys) (o .left) (o .right) open-free .0)
 
 -- A lawful catalogue is taken by an open that has a record.
-opens-taken : (cat : Catalogue) (cells : List ℕ) → Lawful cat (length cells) → (o : OpenCall cat cells) → 0 < recordsOf cat cells o → o .answer .refusal ≡ 0
+opens-taken : (cat : Catalogue) (cells : List ℕ) → Lawful cat (length cells) → (o : Beginning cat cells) → 0 < recordsOf cat cells o → o .answer .refusal ≡ 0
 opens-taken cat cells L o room =
     ap (λ (x : Opened). x .refusal) (o .opens) ∙ opens-iff cat cells everySet (o .keys) (o .left) (o .right) .1 (L, tt, λ n. room)
 

@@ -33,7 +33,7 @@ use Rattle.facts.specs.Worked.{pair, pairCells, twice, twiceCells, NullC
 -- ---- a drained stream
 
 -- A call that opened a stream of every set on these tables: the store that was lent, what the call answered, and what the store's lists then hold.
-pub record OpenCall (cat : Catalogue) (cells : List ℕ) : Type 0 where
+pub record Beginning (cat : Catalogue) (cells : List ℕ) : Type 0 where
   pub keys : List ℕ
   pub left : List ℕ
   pub right : List ℕ
@@ -45,16 +45,16 @@ pub record OpenCall (cat : Catalogue) (cells : List ℕ) : Type 0 where
 
 module _ (cat : Catalogue) (cells : List ℕ) where
   -- How many records the store has room for.
-  abbrev pub recordsOf : OpenCall cat cells → ℕ
+  abbrev pub recordsOf : Beginning cat cells → ℕ
   recordsOf o = roomIn (storeIn (o .keys) (o .left) (o .right) 0)
 
   -- The stream that it left.
-  abbrev pub streamOf : OpenCall cat cells → State
+  abbrev pub streamOf : Beginning cat cells → State
   streamOf o = stateOf (o .answer .stream) (o .keys′) (o .left′) (o .right′)
 
   -- A stream was opened without refusal and called, by public calls in a row, until one told the end; l are all their answers.
   pub record Drained (l : List Called) : Type 0 where
-    pub opened : OpenCall cat cells
+    pub opened : Beginning cat cells
     pub free : opened .answer .refusal ≡ 0
     pub gave : List Given
     pub last : State
@@ -120,5 +120,5 @@ pub record FrontPage : Type 0 where
   pub null-out : (l : List Called) → Drained pair pairCells l → Out pair l (1 ∷ 0 ∷ []) (2 ∷ 3 ∷ []) × Out pair l (0 ∷ 1 ∷ []) (2 ∷ 0 ∷ [])
   -- It fails, too, of a table that holds one row twice, which the loader refuses by 7 and open takes.
   pub twice-covers : TwiceCovered
-  pub twice-opens : (o : OpenCall twice twiceCells) → 0 < recordsOf twice twiceCells o → o .answer .refusal ≡ 0
+  pub twice-opens : (o : Beginning twice twiceCells) → 0 < recordsOf twice twiceCells o → o .answer .refusal ≡ 0
   pub twice-out : (l : List Called) → Drained twice twiceCells l → Out twice l (1 ∷ []) (2 ∷ []) × Out twice l (2 ∷ []) (2 ∷ [])
