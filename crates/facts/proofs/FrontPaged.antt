@@ -35,7 +35,7 @@ use Rattle.facts.specs.Filing.{Renumbering, renumbered, reordered, reord
 use Rattle.facts.specs.Worked.{pair, pairCells, twice, twiceCells}
 use Rattle.facts.specs.FrontPage.{Beginning, recordsOf, streamOf, Drained, Out, Shown, SameSets, GoodLoad, FrontPage}
 use Rattle.facts.proofs.FilingLaws.{renumbered-back}
-use Rattle.facts.proofs.OrderLaws.{moved-maximal, maximal-moved, moved-padded}
+use Rattle.facts.proofs.OrderLaws.{new-lawful, moved-maximal, maximal-moved, moved-padded}
 use Rattle.facts.proofs.OrderImages.{moved-loads}
 use Rattle.facts.proofs.FiledLaws.{accepted-filed}
 use Rattle.facts.proofs.FrontLaws.{every-row-stands, none-covered}
@@ -257,6 +257,7 @@ pub front-page : FrontPage
 front-page =
     record {
       order = same-sets;
+      order-lawful = λ cat cells lent to from h L. new-lawful cat cells to from h L lent;
       order-loads = λ s lent cells r g to from h lent′ cells′ r′ fits l′.
           moved-loads (r .catalogue) cells to from h (load-accepted s lent cells r g) lent′ cells′ r′ fits l′;
       order-images = λ s lent cells r g to from h lent′ cells′ r′ fits i l l′ D D′.

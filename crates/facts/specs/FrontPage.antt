@@ -8,6 +8,7 @@ use mathlib.Core.List.{List, [], _∷_, List·Memᴰ}
 use lib.ListN.{length, take}
 use Rattle.tables.specs.declared.Catalogue.{Catalogue}
 use Rattle.tables.specs.Catalogues.{firstCell}
+use Rattle.tables.specs.Checks.{Lawful}
 use Rattle.disjunction.specs.Sets.{at, Maximal}
 use Rattle.disjunction.specs.Cells.{padded}
 use Rattle.rows.specs.World.{cellsIn, worldOf, setOf}
@@ -98,6 +99,9 @@ pub record FrontPage : Type 0 where
   -- First, of all tables that open takes, in any order and whatever is lent behind their cells.
   pub order : (cat : Catalogue) (cells lent : List ℕ) (to from : ℕ → ℕ) → Renumbering (cat .n) to from → (l l′ : List Called)
       → Drained cat cells l → Drained (reordered from cat) (reorderedIn from cat cells lent) l′ → SameSets cat to from l l′
+  -- What open takes it takes in the new order, too, if there is a record for the first set: a lawful catalogue stays lawful.
+  pub order-lawful : (cat : Catalogue) (cells lent : List ℕ) (to from : ℕ → ℕ) → Renumbering (cat .n) to from → Lawful cat (length cells)
+      → Lawful (reordered from cat) (length (reorderedIn from cat cells lent))
   -- The image of a loaded image's tables in the new order loads to just these, in any cells that they fit in.
   pub order-loads : (s lent cells : List ℕ) (r : Loaded) → GoodLoad s lent cells r → (to from : ℕ → ℕ) → Renumbering (r .catalogue .n) to from
       → (lent′ cells′ : List ℕ) (r′ : Loaded) → firstCell (r .catalogue) (r .catalogue .n) ≤ length lent′
