@@ -1,5 +1,5 @@
 -- Request #114, read out: three facts of drained streams, over lists of answers of public calls that meet their promises. Stores and calls are named in this
--- file and proofs/FrontPaged alone. Assumes nothing.
+-- file and proofs/FrontPaged alone. That a drain comes to its end is demand 3's (`drains`, `full-exactly`). Assumes nothing.
 use Prim.Native.Nat.{ℕ, _≤_, _<_}
 use mathlib.Core.Path.{_≡_}
 use mathlib.Core.Logic.{_≢_}
