@@ -202,7 +202,16 @@ pub extern "C" fn harbour_open_holding(
         return 31;
     }
     let cat = crate::catalogue_in(catalogue);
-    let r = stream::open_holding(cat, cells, low, high, left, right, table as usize, row as usize);
+    let r = stream::open_holding(
+        cat,
+        cells,
+        low,
+        high,
+        left,
+        right,
+        table as usize,
+        row as usize,
+    );
     let opened = r.stream;
     put_holding(opened, words);
     (r.tests as u64) * 32 + (r.refusal as u64)

@@ -197,7 +197,12 @@ pub fn covers(first: &[u64], second: &[u64]) -> bool
 
 // Checks a list of keys, as the regional hub sends it, their words in two slices: whether it holds every maximal set once and nothing else, in any order.
 // A no names the first entry that is none or a repeat, or else the first set not listed that the trials over the listed sets reach.
-pub fn check_list(cat: Catalogue, cells: &[u64], listed_low: &[u64], listed_high: &[u64]) -> ListVerdict
+pub fn check_list(
+    cat: Catalogue,
+    cells: &[u64],
+    listed_low: &[u64],
+    listed_high: &[u64],
+) -> ListVerdict
     ensures { λ r. ⌜ ChecksList cat (now (cells .entry)) (now («listed_low» .entry)) (now («listed_high» .entry)) r ⌝ }
 {
     hub::check_list(cat, cells, listed_low, listed_high)

@@ -132,7 +132,15 @@ fn records_of(words: usize) -> usize
 
 // Whether one of the words before place `to` is this one: a search of the tree, and for those without a record a look at each.
 // Every search of the check is this one, so that its time does not grow with the list.
-fn in_list(low: &[u64], high: &[u64], left: &[u16], right: &[u16], n: usize, to: usize, word: Key) -> bool
+fn in_list(
+    low: &[u64],
+    high: &[u64],
+    left: &[u16],
+    right: &[u16],
+    n: usize,
+    to: usize,
+    word: Key,
+) -> bool
     requires { ⌜ (n ≤ mostTables) × (to ≤ length (listedKeys (now low) (now high))) × Low n (numberOf word) × Linked n (now low) (now high) (now left) (now right) (recordsOf to) ⌝ }
     ensures { λ r. ⌜ r ≡ among (listedKeys (now (low .entry)) (now (high .entry))) to (numberOf word) ⌝ }
 {
@@ -325,7 +333,12 @@ fn judge(cat: Catalogue, cells: &[u64], low: &[u64], high: &[u64]) -> ListVerdic
 
 // Checks the hub's list: whether it holds every maximal set once and nothing else, in any order.
 // Any words may be listed, and the list may have any length.
-pub fn check_list(cat: Catalogue, cells: &[u64], listed_low: &[u64], listed_high: &[u64]) -> ListVerdict
+pub fn check_list(
+    cat: Catalogue,
+    cells: &[u64],
+    listed_low: &[u64],
+    listed_high: &[u64],
+) -> ListVerdict
     ensures { λ r. ⌜ ChecksList cat (now (cells .entry)) (now («listed_low» .entry)) (now («listed_high» .entry)) r ⌝ }
 {
     let f = tables::fault(cat, cells.len());

@@ -251,7 +251,14 @@ fn wants(scope: Scope, key: Key) -> bool
 
 // Whether the record does not fit the tables and the store (13).
 // Behind this test every place that the record names is there.
-fn record_unfit(cat: Catalogue, low: &[u64], high: &[u64], left: &[u16], right: &[u16], s: StreamRecord) -> bool
+fn record_unfit(
+    cat: Catalogue,
+    low: &[u64],
+    high: &[u64],
+    left: &[u16],
+    right: &[u16],
+    s: StreamRecord,
+) -> bool
     requires { ⌜ Lawful cat mostCells ⌝ }
     ensures { λ r. ⌜ r ≡ unfit cat (stateOf s (now (low .entry)) (now (high .entry)) (now (left .entry)) (now (right .entry))) ⌝ }
 {
@@ -489,7 +496,18 @@ fn call(
     if f != 0 {
         return told(Answer::Refused(f), stream, 0, 0, 0);
     }
-    work(cat, cells, low, high, left, right, stream, scope, budget, padded)
+    work(
+        cat,
+        cells,
+        low,
+        high,
+        left,
+        right,
+        stream,
+        scope,
+        budget,
+        padded,
+    )
 }
 
 // One call of an open stream with a budget of trials, the record by value.
@@ -539,7 +557,18 @@ pub fn step_holding(
     let row = stream.row;
     let before = stream.stream;
     let scope = Scope::With(table, row);
-    let r = call(cat, cells, low, high, left, right, before, scope, budget, padded);
+    let r = call(
+        cat,
+        cells,
+        low,
+        high,
+        left,
+        right,
+        before,
+        scope,
+        budget,
+        padded,
+    );
     let answer = r.answer;
     let key = r.key;
     let after = r.stream;
