@@ -12,7 +12,15 @@ fn list(scope: Scope, input: &[u8]) {
     let mut high = [0u64; 4096];
     let mut left = [0u16; 4096];
     let mut right = [0u16; 4096];
-    lister::print(scope, input, &mut cells, &mut low, &mut high, &mut left, &mut right);
+    lister::print(
+        scope,
+        input,
+        &mut cells,
+        &mut low,
+        &mut high,
+        &mut left,
+        &mut right,
+    );
 }
 
 // Reads standard input and lists the sets that hold a row of it as an image.

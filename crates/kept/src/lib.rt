@@ -240,14 +240,25 @@ pub fn covers_words(first: &[u64], second: &[u64]) -> u64
 }
 
 // Calls `harbour::check_list`.
-pub fn check_list(cat: Catalogue, cells: &[u64], listed_low: &[u64], listed_high: &[u64]) -> ListVerdict
+pub fn check_list(
+    cat: Catalogue,
+    cells: &[u64],
+    listed_low: &[u64],
+    listed_high: &[u64],
+) -> ListVerdict
     ensures { λ r. ⌜ ChecksList cat (now (cells .entry)) (now («listed_low» .entry)) (now («listed_high» .entry)) r ⌝ }
 {
     harbour::check_list(cat, cells, listed_low, listed_high)
 }
 
 // Calls `abi::lists::harbour_check_list`.
-pub fn check_list_words(catalogue: &[u64], cells: &[u64], listed_low: &[u64], listed_high: &[u64], result: &mut [u64]) -> u64
+pub fn check_list_words(
+    catalogue: &[u64],
+    cells: &[u64],
+    listed_low: &[u64],
+    listed_high: &[u64],
+    result: &mut [u64],
+) -> u64
     ensures { λ r. ⌜ ListCall (now (catalogue .entry)) (now (cells .entry)) (now («listed_low» .entry)) (now («listed_high» .entry)) (now (result .entry)) r (now (result .exit)) ⌝ }
 {
     abi::lists::harbour_check_list(catalogue, cells, listed_low, listed_high, result)

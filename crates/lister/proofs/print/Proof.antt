@@ -79,8 +79,7 @@ loop-less c = c .before .before .before .before .before .before .before .before 
 loop-again : tie.Need-loop-again Inv-loop μ-loop
 loop-again c =
     let l = c .before .before .before .before .before .before .before .before .before .before .before .before .before .before .before .before .before .before .before .before .before .before .before .loop in
-    let m = c .before .before .before .before .before .before .before .before .before .before .more-lines in
-    (
+    let m = c .before .before .before .before .before .before .before .before .before .before .more-lines in (
       (_, printing-next (l .inv .0 .1) (m .ensures .1)),
       m .kept .1 .1 .0 ∙ l .inv .1,
       m .kept .1 .1 .1 .0 ∙ l .inv .2,

@@ -75,8 +75,7 @@ loop-less c = c .before .before .before .before .before .before .before .before 
 loop-again : tie.Need-loop-again Inv-loop μ-loop
 loop-again c =
     let l = c .before .before .before .before .before .before .before .before .before .before .before .before .before .before .before .before .before .before .before .before .before .before .before .loop in
-    let t = c .before .before .before .before .before .before .before .before .before .before .before .before .turn2 in
-    (
+    let t = c .before .before .before .before .before .before .before .before .before .before .before .before .turn2 in (
       gives-on (l .inv .0) (t .ensures .1),
       omega (arith, t .ensures .0, l .inv .1),
       t .kept .1 .1 .0 ∙ l .inv .2,
