@@ -1,4 +1,0 @@
-pub mod Filing
-pub mod Front
-pub mod Worked
-pub mod FrontPage
