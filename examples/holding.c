@@ -14,15 +14,15 @@
 /* Opens the stream of the sets that hold the row: its row tests * 32 + refusal. */
 static uint64_t open_row(uint64_t table, uint64_t row)
 {
-    return harbour_open_holding(catalogue, 34, cells, MOST_CELLS, keys, RECORDS, left, RECORDS,
-                                right, RECORDS, table, row, record, 5);
+    return harbour_open_holding(catalogue, 34, cells, MOST_CELLS, low, RECORDS, high, RECORDS,
+                                left, RECORDS, right, RECORDS, table, row, record, 5);
 }
 
 /* Asks for the next of them, in at most so many trials. */
 static uint64_t next_of_row(uint64_t budget)
 {
-    return harbour_next_holding(catalogue, 34, cells, MOST_CELLS, keys, RECORDS, left, RECORDS,
-                                right, RECORDS, record, 5, budget, padded, 63, result, 4);
+    return harbour_next_holding(catalogue, 34, cells, MOST_CELLS, low, RECORDS, high, RECORDS,
+                                left, RECORDS, right, RECORDS, record, 5, budget, padded, 63, result, 5);
 }
 
 /* Reads a number in decimal digits; says whether it is one. */

@@ -25,8 +25,8 @@ enum { RIGHT, ENTRY, MISSING, REFUSED, ERROR };
 static uint64_t catalogue[34];
 static uint64_t cells[MOST_CELLS];
 
-/* The listed keys, and the line of each. */
-static uint64_t *listed;
+/* The words of the listed keys, and the line of each. */
+static uint64_t *low, *high;
 static size_t *lines;
 static size_t count, room;
 
@@ -53,28 +53,31 @@ static int load(const char *name)
 }
 
 /* Takes in one more key. */
-static bool keep(uint64_t key, size_t line)
+static bool keep(const uint64_t key[2], size_t line)
 {
     if (count == room) {
         room = room ? 2 * room : 1024;
-        uint64_t *more_keys = realloc(listed, room * sizeof *listed);
-        listed = more_keys ? more_keys : listed;
+        uint64_t *more_low = realloc(low, room * sizeof *low);
+        low = more_low ? more_low : low;
+        uint64_t *more_high = realloc(high, room * sizeof *high);
+        high = more_high ? more_high : high;
         size_t *more_lines = realloc(lines, room * sizeof *lines);
         lines = more_lines ? more_lines : lines;
-        if (!more_keys || !more_lines)
+        if (!more_low || !more_high || !more_lines)
             return false;
     }
-    listed[count] = key;
+    low[count] = key[0];
+    high[count] = key[1];
     lines[count] = line;
     count++;
     return true;
 }
 
-/* The key of a line's row numbers, or why it is no such line. */
-static const char *read_set(const char *text, uint64_t *key)
+/* The words of the key of a line's row numbers, 12 bits each and five in the first word, or why it is no such line. */
+static const char *read_set(const char *text, uint64_t key[2])
 {
     uint64_t table = 0;
-    *key = 0;
+    key[0] = key[1] = 0;
     while (true) {
         text += strspn(text, " \t\r\n");
         if (*text == '\0' || *text == '|')
@@ -83,11 +86,12 @@ static const char *read_set(const char *text, uint64_t *key)
             return "has something other than row numbers";
         char *end;
         uint64_t row = strtoull(text, &end, 10);
-        if (row > 255)
-            return "has a row number above 255";
+        if (row > 4095)
+            return "has a row number above 4,095";
         if (table == catalogue[1])
             return "has too many row numbers";
-        *key |= row << (8 * table++);
+        key[table / 5] |= row << 12 * (table % 5);
+        table++;
         text = end;
     }
 }
@@ -98,12 +102,12 @@ static int read_list(void)
     static char text[MOST_LINE];
     for (size_t line = 1; fgets(text, sizeof text, stdin); line++) {
         const char *why = "is too long", *start = text + strspn(text, " \t");
-        uint64_t key;
+        uint64_t key[2];
         if (strlen(text) + 1 < sizeof text || text[sizeof text - 2] == '\n') {
             size_t word = strcspn(start, " \t\r\n|");
             if (isalpha((unsigned char)*start) && !(word == 3 && strncmp(start, "set", 3) == 0))
                 continue;
-            why = read_set(isalpha((unsigned char)*start) ? start + 3 : start, &key);
+            why = read_set(isalpha((unsigned char)*start) ? start + 3 : start, key);
         }
         if (why == NULL && !keep(key, line))
             why = "has no room in memory";
@@ -118,8 +122,8 @@ static int read_list(void)
 /* Checks the list and prints the answer. */
 static int check(void)
 {
-    uint64_t named[1];
-    uint64_t answer = harbour_check_list(catalogue, 34, cells, MOST_CELLS, listed, count, named, 1);
+    uint64_t named[2];
+    uint64_t answer = harbour_check_list(catalogue, 34, cells, MOST_CELLS, low, count, high, count, named, 2);
     switch (answer) {
     case 32:
         puts("right");
@@ -130,7 +134,7 @@ static int check(void)
     case 96:
         fputs("missing", stdout);
         for (uint64_t table = 0; table < catalogue[1]; table++)
-            printf(" %" PRIu64, named[0] >> (8 * table) & 255);
+            printf(" %" PRIu64, named[table / 5] >> 12 * (table % 5) & 4095);
         putchar('\n');
         return MISSING;
     default:
@@ -150,7 +154,8 @@ int main(int argc, char **argv)
         status = read_list();
     if (status == RIGHT)
         status = check();
-    free(listed);
+    free(low);
+    free(high);
     free(lines);
     return status;
 }

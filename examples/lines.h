@@ -21,12 +21,13 @@ static uint64_t catalogue[34];
 static uint64_t cells[MOST_CELLS];
 
 /* What a stream works in, from open to its end: the store, the record, which may name a row, a padded row and a result. */
-static uint64_t keys[RECORDS];
+static uint64_t low[RECORDS];
+static uint64_t high[RECORDS];
 static uint16_t left[RECORDS];
 static uint16_t right[RECORDS];
 static uint64_t record[5];
 static uint64_t padded[63];
-static uint64_t result[4];
+static uint64_t result[5];
 
 /* A call that asks for the next set, in at most so many trials. */
 typedef uint64_t next_call(uint64_t budget);
@@ -61,12 +62,18 @@ static void print_tables(uint64_t tests)
     printf("tables %" PRIu64 " %" PRIu64 " %" PRIu64 " %" PRIu64 "\n", catalogue[0], catalogue[1], rows, tests);
 }
 
+/* The row number of a table in a key: 12 bits each, tables 0 to 4 in its first word and the others in its second. */
+static uint64_t row_in(const uint64_t key[2], uint64_t table)
+{
+    return key[table / 5] >> 12 * (table % 5) & 4095;
+}
+
 /* The line of a set: the row number of each table, a bar, and the values; a code is a value plus 1, and 0 for none. */
 static void print_set(void)
 {
     fputs("set", stdout);
     for (uint64_t table = 0; table < catalogue[1]; table++)
-        printf(" %" PRIu64, result[0] >> (8 * table) & 255);
+        printf(" %" PRIu64, row_in(result, table));
     fputs(" |", stdout);
     for (uint64_t a = 0; a < catalogue[0]; a++) {
         if (padded[a] == 0)
@@ -83,9 +90,9 @@ static void drain(next_call *next_set)
     uint64_t trials = 0, tests = 0, looks = 0;
     while (true) {
         uint64_t answer = next_set(BUDGET);
-        trials += result[1];
-        tests += result[2];
-        looks += result[3];
+        trials += result[2];
+        tests += result[3];
+        looks += result[4];
         if (answer == 32)
             print_set();
         if (answer == 64)

@@ -7,15 +7,15 @@
 /* Opens the stream: its row tests * 32 + refusal. */
 static uint64_t open_stream(void)
 {
-    return harbour_open(catalogue, 34, cells, MOST_CELLS, keys, RECORDS, left, RECORDS,
-                        right, RECORDS, record, 3);
+    return harbour_open(catalogue, 34, cells, MOST_CELLS, low, RECORDS, high, RECORDS,
+                        left, RECORDS, right, RECORDS, record, 3);
 }
 
 /* Asks for the next set, in at most so many trials. */
 static uint64_t next_set(uint64_t budget)
 {
-    return harbour_next(catalogue, 34, cells, MOST_CELLS, keys, RECORDS, left, RECORDS,
-                        right, RECORDS, record, 3, budget, padded, 63, result, 4);
+    return harbour_next(catalogue, 34, cells, MOST_CELLS, low, RECORDS, high, RECORDS,
+                        left, RECORDS, right, RECORDS, record, 3, budget, padded, 63, result, 5);
 }
 
 int main(void)

@@ -32,21 +32,26 @@ extern "C" {
  *
  * The answer is 0 for a good image, else place * 32 + refusal. The place counts
  * bytes from the image's first, which is 0; it is the first byte of the number at
- * fault, with refusal 7 of the row, with 9 of the surplus. The first fault in
- * reading order is reported. The bytes are only read, and nothing is kept. With
- * length 0 the pointer is not followed and may be NULL.
+ * fault, with refusals 7 and 21 of the row, with 9 of the surplus, and 0 with 20. The
+ * first fault in reading order is reported. The bytes are only read, and nothing is
+ * kept. With length 0 the pointer is not followed and may be NULL.
+ *
+ * An image's version is 2 where some table has more than 255 rows, and 1 otherwise. In
+ * version 2 no row may be all null; a version 1 image that holds such rows is good.
  *
  * The refusals:
  *   1  the image ends inside a number, or where one is due
  *   2  a number is not in its shortest form: its last group, after the first byte, is zero
- *   3  the version is not 1
+ *   3  the version is neither 1 nor 2
  *   4  the number of attributes is not 1 to 63, or the number of tables not 1 to 8
  *   5  a scheme is 0, or has an attribute that is not below their number
- *   6  a table has more than 255 rows
+ *   6  a table has more than 255 rows in version 1, or more than 4,095 in version 2
  *   7  a row does not rise above the one before
  *   8  the cells so far, this table included, pass 8,192
  *   9  bytes follow the last table
  *   17 a number does not end: its ninth byte has the top bit set
+ *   20 the version is 2, and no table has more than 255 rows; met after all else
+ *   21 a row is all null in version 2; met after the row's last cell and before 7
  */
 uint64_t harbour_check(const uint8_t *image, size_t length);
 
@@ -66,14 +71,24 @@ uint64_t harbour_check(const uint8_t *image, size_t length);
  *
  * A stream record is 3 words: records found, records handed out, next row; that of a
  * stream of one row is 5: the same, then the row's table and its number. A result is
- * 4 words: key, trials, row tests, looks. Words behind these stay. Where fewer are
- * lent, the answer is 31 and nothing changes.
+ * 5 words: the key's first word, its second, trials, row tests, looks. Words behind
+ * these stay. Where fewer are lent, the answer is 31 and nothing changes.
  *
- * The store is three arrays, keys, left and right; it has as many records as the
+ * The key of a set is two words of row numbers, 12 bits each and 0 for none: tables 0
+ * to 4 in the first word (`low`) from its lowest bit on, tables 5 to 7 in the second
+ * (`high`). Table t's row is low >> 12 * t & 4095, and high >> 12 * (t - 5) & 4095 from
+ * table 5 on. Bits 60 to 63 of the first word and 36 to 63 of the second are 0; a key
+ * with one of them set names a missing row. Where keys are put in order, the second
+ * word counts first.
+ *
+ * The store is four arrays, low, high, left and right; it has as many records as the
  * shortest of them has elements, and at most 65,535. The caller keeps the store and
- * the stream record from open on, and changes neither between calls.
+ * the stream record from open on, and changes neither between calls. A store that was
+ * filled under keys of one word, a byte for each table, is none of these: its stream is
+ * opened anew.
  *
  * Further refusals:
+ *   6   in a catalogue: a table has more than 4,095 rows
  *   8   also: the cells so far pass the cells that are lent
  *   10  a code is 2^63 or more
  *   11  the lent bytes or the lent padded row are too short
@@ -82,6 +97,7 @@ uint64_t harbour_check(const uint8_t *image, size_t length);
  *   14  the store is damaged
  *   16  a place or a mask in the catalogue is not the one worked out
  *   19  there is no such table or row
+ *   21  in the writer: a row is all null, where some table has more than 255 rows
  *
  * A catalogue that is lent is checked first, and before any cell is looked at: 4; then
  * table by table 5, 6 and 8; then 16.
@@ -114,9 +130,10 @@ uint64_t harbour_make_catalogue(const uint64_t *given, size_t given_length,
                                 uint64_t *catalogue, size_t catalogue_length);
 
 /*
- * Writes the image of tables. The answer is its length * 32, or the refusal, and
- * then no byte is written: the catalogue's, then row by row through all tables 10,
- * then 7, last 11.
+ * Writes the image of tables, in version 2 exactly when some table has more than 255
+ * rows. The answer is its length * 32, or the refusal, and then no byte is written: the
+ * catalogue's, then row by row through all tables 10, then 21 in version 2, then 7,
+ * last 11.
  */
 uint64_t harbour_write(const uint64_t *catalogue, size_t catalogue_length,
                        const uint64_t *cells, size_t cells_length,
@@ -129,7 +146,8 @@ uint64_t harbour_write(const uint64_t *catalogue, size_t catalogue_length,
  */
 uint64_t harbour_open(const uint64_t *catalogue, size_t catalogue_length,
                       const uint64_t *cells, size_t cells_length,
-                      uint64_t *keys, size_t keys_length,
+                      uint64_t *low, size_t low_length,
+                      uint64_t *high, size_t high_length,
                       uint16_t *left, size_t left_length,
                       uint16_t *right, size_t right_length,
                       uint64_t *record, size_t record_length);
@@ -137,12 +155,12 @@ uint64_t harbour_open(const uint64_t *catalogue, size_t catalogue_length,
 /*
  * Asks an open stream for its next set, in at most `budget` trials. The answer is
  *
- *   32   a set: its key is in the result, its row in the first cells of padded
+ *   32   a set: the words of its key are in the result, its row in the first cells of padded
  *   64   finished: there are no more sets
  *   96   working: the budget is spent; call again
  *
- * or a refusal. The record is moved on. With another answer than 32 the key is 0
- * and padded stays.
+ * or a refusal. The record is moved on. With another answer than 32 both words of the
+ * key are 0 and padded stays.
  *
  * Before any trial it is refused with the catalogue's 4, 5, 6, 8 or 16, then 13, then
  * 11; only the result is then changed, to zeros. 12 and 14 are met at work: the trials
@@ -150,7 +168,8 @@ uint64_t harbour_open(const uint64_t *catalogue, size_t catalogue_length,
  */
 uint64_t harbour_next(const uint64_t *catalogue, size_t catalogue_length,
                       const uint64_t *cells, size_t cells_length,
-                      uint64_t *keys, size_t keys_length,
+                      uint64_t *low, size_t low_length,
+                      uint64_t *high, size_t high_length,
                       uint16_t *left, size_t left_length,
                       uint16_t *right, size_t right_length,
                       uint64_t *record, size_t record_length,
@@ -166,7 +185,8 @@ uint64_t harbour_next(const uint64_t *catalogue, size_t catalogue_length,
  */
 uint64_t harbour_open_holding(const uint64_t *catalogue, size_t catalogue_length,
                               const uint64_t *cells, size_t cells_length,
-                              uint64_t *keys, size_t keys_length,
+                              uint64_t *low, size_t low_length,
+                              uint64_t *high, size_t high_length,
                               uint16_t *left, size_t left_length,
                               uint16_t *right, size_t right_length,
                               uint64_t table, uint64_t row,
@@ -181,7 +201,8 @@ uint64_t harbour_open_holding(const uint64_t *catalogue, size_t catalogue_length
  */
 uint64_t harbour_next_holding(const uint64_t *catalogue, size_t catalogue_length,
                               const uint64_t *cells, size_t cells_length,
-                              uint64_t *keys, size_t keys_length,
+                              uint64_t *low, size_t low_length,
+                              uint64_t *high, size_t high_length,
                               uint16_t *left, size_t left_length,
                               uint16_t *right, size_t right_length,
                               uint64_t *record, size_t record_length,
@@ -199,22 +220,25 @@ uint64_t harbour_covers(const uint64_t *first, size_t first_length,
 
 /*
  * Checks a list of keys, as another program joined the same tables: whether it
- * holds every maximal row set once and nothing else, in any order. Any words may be
- * listed, and the list may have any length. The answer is
+ * holds every maximal row set once and nothing else, in any order. The first words of
+ * the keys are one array, the second words another; the list is as long as the shorter.
+ * Any words may be listed, and the list may have any length. The answer is
  *
  *   32   right
- *   64   the entry whose place, from 0, is in the result is not a maximal set, or
- *        repeats an earlier one; it is the first such entry
+ *   64   the entry whose place, from 0, is in the result's first word is not a maximal
+ *        set, or repeats an earlier one; it is the first such entry
  *   96   every entry is good, and the set whose key is in the result is missing: the
  *        first that trials of all rows on the listed sets reach, in the list's order
  *        (for an empty list, what the first row extends to)
  *
- * or one of the refusals 4, 5, 6, 8 and 16. The result is 1 word; with 32 and a refusal
- * it is 0. No memory is asked for; the call takes about 270 kB of stack.
+ * or one of the refusals 4, 5, 6, 8 and 16. The result is 2 words: a place and 0, or
+ * the words of a key; with 32 and a refusal they are 0. No memory is asked for; the
+ * call takes about 270 kB of stack.
  */
 uint64_t harbour_check_list(const uint64_t *catalogue, size_t catalogue_length,
                             const uint64_t *cells, size_t cells_length,
-                            const uint64_t *listed, size_t listed_length,
+                            const uint64_t *low, size_t low_length,
+                            const uint64_t *high, size_t high_length,
                             uint64_t *result, size_t result_length);
 
 #ifdef __cplusplus

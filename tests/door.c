@@ -22,7 +22,8 @@ struct edge {
 
 static const struct edge edges[] = {
     EDGE("empty", "", 1, 0),
-    EDGE("version 2", "\x02", 3, 0),
+    EDGE("version 2 alone", "\x02", 1, 1),
+    EDGE("version 3", "\x03", 3, 0),
     EDGE("version 0", "\x00", 3, 0),
     EDGE("no rows", "\x01\x01\x01\x01\x00", 0, 0),
     EDGE("one null row", "\x01\x01\x01\x01\x01\x00", 0, 0),
@@ -37,6 +38,17 @@ static const struct edge edges[] = {
     EDGE("scheme 0", "\x01\x01\x01\x00", 5, 3),
     EDGE("256 rows", "\x01\x01\x01\x01\x80\x02", 6, 4),
     EDGE("255 rows and no cells", "\x01\x01\x01\x01\xFF\x01", 1, 6),
+    EDGE("4,095 rows in version 1", "\x01\x01\x01\x01\xFF\x1F", 6, 4),
+    EDGE("256 rows in version 2 and no cells", "\x02\x01\x01\x01\x80\x02", 1, 6),
+    EDGE("4,095 rows in version 2 and no cells", "\x02\x01\x01\x01\xFF\x1F", 1, 6),
+    EDGE("4,096 rows in version 2", "\x02\x01\x01\x01\x80\x20", 6, 4),
+    EDGE("no rows in version 2", "\x02\x01\x01\x01\x00", 20, 0),
+    EDGE("one byte behind in version 2", "\x02\x01\x01\x01\x00\x00", 9, 5),
+    EDGE("one row in version 2", "\x02\x01\x01\x01\x01\x05", 20, 0),
+    EDGE("one null row in version 2", "\x02\x01\x01\x01\x01\x00", 21, 5),
+    EDGE("a null row after a row in version 2", "\x02\x01\x01\x01\x02\x01\x00", 21, 6),
+    EDGE("a null beside a value in version 2", "\x02\x02\x01\x03\x01\x00\x05", 20, 0),
+    EDGE("the same row twice in version 2", "\x02\x01\x01\x01\x02\x05\x05", 7, 6),
     EDGE("the same row twice", "\x01\x01\x01\x01\x02\x05\x05", 7, 6),
     EDGE("rows that rise", "\x01\x01\x01\x01\x02\x05\x06", 0, 0),
     EDGE("one byte behind", "\x01\x01\x01\x01\x00\x00", 9, 5),
@@ -91,6 +103,17 @@ static size_t full_width(uint8_t *image, unsigned rows)
     return place;
 }
 
+/* Makes one table of one attribute with so many rows, whose codes rise from the first; gives its length. */
+static size_t column(uint8_t *image, uint8_t version, unsigned first, unsigned rows)
+{
+    const uint8_t front[] = { version, 1, 1, 1 };
+    memcpy(image, front, sizeof front);
+    size_t place = put(image, sizeof front, rows);
+    for (unsigned row = 0; row < rows; row++)
+        place = put(image, place, first + row);
+    return place;
+}
+
 int main(void)
 {
     static uint8_t image[16384];
@@ -103,6 +126,13 @@ int main(void)
     expect("no pointer and length 0", harbour_check(NULL, 0), 1, 0);
     expect("63 attributes, 130 rows", harbour_check(image, full_width(image, 130)), 0, 0);
     expect("63 attributes, 131 rows", harbour_check(image, full_width(image, 131)), 8, 12);
+    expect("255 rows", harbour_check(image, column(image, 1, 0, 255)), 0, 0);
+    expect("256 rows with cells", harbour_check(image, column(image, 1, 1, 256)), 6, 4);
+    expect("255 rows in version 2", harbour_check(image, column(image, 2, 1, 255)), 20, 0);
+    expect("256 rows in version 2", harbour_check(image, column(image, 2, 1, 256)), 0, 0);
+    expect("256 rows in version 2, the first null", harbour_check(image, column(image, 2, 0, 256)), 21, 6);
+    expect("4,095 rows in version 2", harbour_check(image, column(image, 2, 1, 4095)), 0, 0);
+    expect("4,096 rows in version 2, with cells", harbour_check(image, column(image, 2, 1, 4096)), 6, 4);
     printf("%u passed, %u failed\n", passed, failed);
     return failed == 0 ? 0 : 1;
 }

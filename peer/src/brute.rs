@@ -1,6 +1,12 @@
 //! The full disjunction by its definition, for small tables: every choice of at most one row per table is tried.
 //! Nothing of the stream's rule is used.
 use crate::make::Tables;
+use crate::rule::Key;
+
+/// What a set's row numbers are the digits of: one number, lowest table first, whose lowest 60 bits are the first word of its key.
+/// Five digits fill them.
+const DIGIT: u128 = 4096;
+const FIRST_WORD: u128 = 1 << 60;
 
 /// A tuple: for each attribute below m nothing, a null, or a value.
 /// Nothing means that the attribute is not in the relation's scheme.
@@ -75,9 +81,9 @@ impl Relations {
             && chosen.iter().all(|&a| chosen.iter().all(|&b| a == b || self.join_consistent(tuple(a), tuple(b))))
     }
 
-    /// All maximal sets as keys, in rising order.
+    /// All maximal sets as keys, in rising order: the second word counts first.
     /// A set is maximal if no other join-consistent connected set properly contains it.
-    pub fn maximal(&self) -> Vec<u64> {
+    pub fn maximal(&self) -> Vec<Key> {
         let mut sets: Vec<Vec<usize>> = Vec::new();
         let mut choice = vec![0; self.tuples.len()];
         loop {
@@ -91,21 +97,23 @@ impl Relations {
             choice[..place].fill(0);
         }
         let inside = |small: &[usize], large: &[usize]| small != large && small.iter().zip(large).all(|(&s, &l)| s == 0 || s == l);
-        let mut keys: Vec<u64> = sets
+        let mut numbers: Vec<u128> = sets
             .iter()
             .filter(|set| !sets.iter().any(|larger| inside(set, larger)))
-            .map(|set| set.iter().rev().fold(0, |key, &row| key * 256 + row as u64))
+            .map(|set| set.iter().rev().fold(0, |number, &row| number * DIGIT + row as u128))
             .collect();
-        keys.sort_unstable();
-        keys
+        numbers.sort_unstable();
+        numbers.iter().map(|&number| Key::of((number % FIRST_WORD) as u64, (number / FIRST_WORD) as u64)).collect()
     }
 
     /// The padded row of a set, as codes: the joined tuple with nulls for all other attributes.
     /// This is embed of the source document.
-    pub fn embed(&self, key: u64) -> Vec<u64> {
+    pub fn embed(&self, key: Key) -> Vec<u64> {
         let mut embedded = vec![0; self.attributes];
+        let mut number = u128::from(key.high) * FIRST_WORD + u128::from(key.low);
         for relation in 0..self.tuples.len() {
-            let row = (key >> (8 * relation) & 0xff) as usize;
+            let row = (number % DIGIT) as usize;
+            number /= DIGIT;
             if row == 0 {
                 continue;
             }

@@ -47,6 +47,33 @@ pub fn full_width(rows: u8) -> Vec<u8> {
     image
 }
 
+/// The image of one table with one attribute, whose rows have so many codes from one on, of either version.
+/// Its cells lie from place 5 on, or 6 where there are more than 127 rows. Codes stay below 16,384.
+pub fn column(version: u8, first: u16, rows: u16) -> Vec<u8> {
+    let mut image = vec![version, 1, 1];
+    table_of_codes(&mut image, first, rows);
+    image
+}
+
+/// Appends the bytes of such a table.
+/// Its scheme is attribute 0.
+fn table_of_codes(image: &mut Vec<u8>, first: u16, rows: u16) {
+    image.push(1);
+    for number in [rows].into_iter().chain(first..first + rows) {
+        image.extend(if number < 128 { vec![number as u8] } else { vec![(number % 128 + 128) as u8, (number / 128) as u8] });
+    }
+}
+
+/// The image of several such tables.
+/// Each is its first code and its row count.
+fn columns(version: u8, tables: &[(u16, u16)]) -> Vec<u8> {
+    let mut image = vec![version, 1, tables.len() as u8];
+    for &(first, rows) in tables {
+        table_of_codes(&mut image, first, rows);
+    }
+    image
+}
+
 /// The number edges as images: the number is the only cell of a good image, at place 5.
 /// The code is that of the cell when the image is good.
 pub fn numbers() -> Vec<(ImageEdge, u64)> {
@@ -80,7 +107,7 @@ pub fn images() -> Vec<ImageEdge> {
     let edge = |name, form: &str, refusal, place| ImageEdge { name, image: hex(form), answer: (refusal, place), looked: if refusal == 2 { 2 } else { 0 } };
     let mut edges = vec![
         edge("empty", "", 1, 0),
-        edge("version 2", "02", 3, 0),
+        edge("version 2 alone", "02", 1, 1),
         edge("P no rows", "01 01 01 01 00", 0, 0),
         edge("P one null row", "01 01 01 01 01 00", 0, 0),
         edge("64 attributes", "01 40", 4, 1),
@@ -92,7 +119,9 @@ pub fn images() -> Vec<ImageEdge> {
         edge("P one byte behind", "01 01 01 01 00 00", 9, 5),
         edge("the sample", "01 03 03 03 02 02 0B 03 15 06 02 0B 08 8B 80 80 80 10 0A 05 02 02 08 03 00", 0, 0),
         edge("version 0", "00", 3, 0),
+        edge("version 3", "03", 3, 0),
         edge("version 129", "81 01", 3, 0),
+        edge("version 130", "82 01", 3, 0),
         edge("version in two bytes", "81 00", 2, 0),
         edge("the version alone", "01", 1, 1),
         edge("no attributes", "01 00", 4, 1),
@@ -116,7 +145,56 @@ pub fn images() -> Vec<ImageEdge> {
         edge("rows of two tables are not compared", "01 01 02 01 01 07 01 01 07", 0, 0),
         edge("the second table's scheme", "01 01 02 01 01 07 02", 5, 6),
         edge("the second table is missing", "01 01 02 01 01 07", 1, 6),
+        edge("4,095 rows in version 1", "01 01 01 01 FF 1F", 6, 4),
+        edge("256 rows in version 2 and no cells", "02 01 01 01 80 02", 1, 6),
+        edge("4,095 rows in version 2 and no cells", "02 01 01 01 FF 1F", 1, 6),
+        edge("4,096 rows in version 2", "02 01 01 01 80 20", 6, 4),
+        edge("4,096 rows of two attributes in version 2", "02 02 01 03 80 20", 6, 4),
+        edge("4,095 rows of three attributes in version 2", "02 03 01 07 FF 1F", 8, 4),
+        edge("no rows in version 2", "02 01 01 01 00", 20, 0),
+        edge("9 before 20", "02 01 01 01 00 00", 9, 5),
+        edge("one row in version 2", "02 01 01 01 01 05", 20, 0),
+        edge("one null row in version 2", "02 01 01 01 01 00", 21, 5),
+        edge("a null row after a row in version 2", "02 01 01 01 02 01 00", 21, 6),
+        edge("a null row twice in version 2", "02 01 01 01 02 00 00", 21, 5),
+        edge("a row falls in version 2", "02 01 01 01 02 05 04", 7, 6),
+        edge("the same row twice in version 2", "02 01 01 01 02 05 05", 7, 6),
+        edge("one value in a row of two in version 2", "02 02 01 03 01 00 05", 20, 0),
+        edge("two nulls in version 2", "02 02 01 03 01 00 00", 21, 5),
+        edge("a cell's fault comes before 21", "02 02 01 03 01 00 80 00", 2, 6),
+        edge("a null row of the second table in version 2", "02 01 02 01 01 05 01 01 00", 21, 8),
+        edge("7 of the first table before 21 of the second", "02 01 02 01 02 05 05 01 01 00", 7, 6),
+        edge("21 before 9", "02 01 01 01 01 00 00", 21, 5),
     ];
+    let long = |name, image, refusal, place| ImageEdge { name, image, answer: (refusal, place), looked: 0 };
+    let with = |mut image: Vec<u8>, bytes: &[u8]| {
+        image.extend(bytes);
+        image
+    };
+    edges.extend([
+        long("255 rows in version 1", column(1, 1, 255), 0, 0),
+        long("255 rows in version 1, one of them null", column(1, 0, 255), 0, 0),
+        long("256 rows in version 1, with cells", column(1, 1, 256), 6, 4),
+        long("4,096 rows in version 1, with cells", column(1, 1, 4096), 6, 4),
+        long("255 rows in version 2", column(2, 1, 255), 20, 0),
+        long("255 rows in version 2, one of them null", column(2, 0, 255), 21, 6),
+        long("256 rows in version 2", column(2, 1, 256), 0, 0),
+        long("256 rows in version 2, one of them null", column(2, 0, 256), 21, 6),
+        long("256 rows in version 2, and one byte", with(column(2, 1, 256), &[0]), 9, 391),
+        long("4,095 rows in version 2", column(2, 1, 4095), 0, 0),
+        long("4,096 rows in version 2, with cells", column(2, 1, 4096), 6, 4),
+        long("256 rows in version 3", column(3, 1, 256), 3, 0),
+        long("255 rows in two tables in version 2", columns(2, &[(1, 255), (1, 255)]), 20, 0),
+        long("255, then 256 rows in version 2", columns(2, &[(1, 255), (1, 256)]), 0, 0),
+        long("256, then 255 rows in version 2", columns(2, &[(1, 256), (1, 255)]), 0, 0),
+        long("255, then 256 rows in version 1", columns(1, &[(1, 255), (1, 256)]), 6, 390),
+        long("a null row in a short table before a long one", columns(2, &[(0, 1), (1, 256)]), 21, 5),
+        long("a null row in a short table behind a long one", columns(2, &[(1, 256), (0, 1)]), 21, 393),
+        long("8,192 rows", columns(2, &[(1, 4095), (1, 4095), (1, 2)]), 0, 0),
+        long("8,193 rows", columns(2, &[(1, 4095), (1, 4095), (1, 3)]), 8, 16_136),
+        long("8,192 rows in eight tables", columns(2, &[(1, 1024); 8]), 0, 0),
+        long("8,193 rows in eight tables", columns(2, &[(1, 1024), (1, 1024), (1, 1024), (1, 1024), (1, 1024), (1, 1024), (1, 1024), (1, 1025)]), 8, 13_472),
+    ]);
     edges.push(ImageEdge { name: "63 attributes, 130 rows", image: full_width(130), answer: (0, 0), looked: 0 });
     edges.push(ImageEdge { name: "63 attributes, 131 rows", image: full_width(131), answer: (8, 12), looked: 0 });
     let mut more = hex("01 3F 02 FF FF FF FF FF FF FF FF 7F");
@@ -181,9 +259,59 @@ pub fn made() -> Vec<MadeEdge> {
         made_of("n 9", 1, 9, &[(1, 1); 8], 4, &[]),
         made_of("scheme 0", 1, 2, &[(1, 1), (0, 1)], 5, &[]),
         made_of("scheme 2^m", 1, 1, &[(2, 1)], 5, &[]),
-        made_of("256 rows", 1, 1, &[(1, 256)], 6, &[]),
+        made_of("256 rows", 1, 1, &[(1, 256)], 0, &[(0, 0)]),
+        made_of("4,095 rows", 2, 1, &[(3, 4095)], 0, &[(0, 0)]),
+        made_of("4,096 rows", 1, 1, &[(1, 4096)], 6, &[]),
+        made_of("4,096 rows of the second table", 2, 2, &[(1, 4095), (2, 4096)], 6, &[]),
+        made_of("8,192 rows", 1, 3, &[(1, 4095), (1, 4095), (1, 2)], 0, &[(0, 6), (4095, 5), (8190, 3)]),
+        made_of("8,193 rows", 1, 3, &[(1, 4095), (1, 4095), (1, 3)], 8, &[]),
         made_of("65,536 rows", 1, 1, &[(1, 65_536)], 6, &[]),
         made_of("8 of the first table before 5 of the second", 63, 2, &[(all, 131), (0, 0)], 8, &[]),
+    ]
+}
+
+/// The writer's edges about 255 and 4,095 rows, and about rows of nulls.
+/// Tables are of one attribute, each as its first code and its row count; a code is then changed at some places.
+pub fn long_writer() -> Vec<WriterEdge> {
+    let top = 1 << 63;
+    let edge = |name, tables: &[(u16, u16)], changes: &[(usize, u64)], out, answer, bytes: Vec<u8>| {
+        let n = tables.len() as u64;
+        let (mut entries, mut cells) = (Vec::new(), Vec::new());
+        for (table, &(first, rows)) in tables.iter().enumerate() {
+            entries.push((1, u64::from(rows), cells.len() as u64, (1 << n) - 1 - (1 << table)));
+            cells.extend((first..first + rows).map(u64::from));
+        }
+        for &(place, code) in changes {
+            cells[place] = code;
+        }
+        WriterEdge { name, catalogue: catalogue(1, n, &entries), cells, out, answer, bytes }
+    };
+    let good = |name, version, tables: &[(u16, u16)]| {
+        let bytes = columns(version, tables);
+        edge(name, tables, &[], bytes.len(), (0, bytes.len() as u64), bytes)
+    };
+    let bad = |name, tables: &[(u16, u16)], changes: &[(usize, u64)], refusal| edge(name, tables, changes, 20_000, (refusal, 0), Vec::new());
+    vec![
+        good("255 rows are version 1", 1, &[(1, 255)]),
+        good("255 rows, one of them null, are version 1", 1, &[(0, 255)]),
+        good("256 rows are version 2", 2, &[(1, 256)]),
+        good("4,095 rows are version 2", 2, &[(1, 4095)]),
+        good("twice 255 rows are version 1", 1, &[(1, 255), (0, 255)]),
+        good("a short table, then a long one", 2, &[(1, 1), (1, 256)]),
+        good("a long table, then a short one", 2, &[(1, 256), (1, 1)]),
+        good("8,192 rows", 2, &[(1, 4095), (1, 4095), (1, 2)]),
+        bad("8,193 rows", &[(1, 4095), (1, 4095), (1, 3)], &[], 8),
+        bad("256 rows, one of them null", &[(0, 256)], &[], 21),
+        bad("a null row of a short table before a long one", &[(0, 1), (1, 256)], &[], 21),
+        bad("a null row of a short table behind a long one", &[(1, 256), (0, 1)], &[], 21),
+        bad("21 before 7", &[(1, 256)], &[(9, 0)], 21),
+        bad("the last row is null", &[(1, 256)], &[(255, 0)], 21),
+        bad("7 in an earlier row than 21", &[(1, 256)], &[(8, 1), (9, 0)], 7),
+        bad("10 in an earlier row than 21", &[(1, 256)], &[(8, top), (9, 0)], 10),
+        bad("21 in an earlier row than 10", &[(0, 256)], &[(1, top)], 21),
+        bad("7 in version 2", &[(1, 256)], &[(9, 1)], 7),
+        edge("21 before 11", &[(0, 256)], &[], 0, (21, 0), Vec::new()),
+        edge("256 rows, one byte short", &[(1, 256)], &[], 390, (11, 0), Vec::new()),
     ]
 }
 
@@ -223,7 +351,8 @@ pub fn writer() -> Vec<WriterEdge> {
         edge("scheme 0", catalogue(1, 1, &table(0, 0)), &[], 9, (5, 0), ""),
         edge("scheme 2^m", catalogue(1, 1, &table(2, 0)), &[], 9, (5, 0), ""),
         edge("scheme 2^63", catalogue(63, 1, &table(top, 0)), &[], 9, (5, 0), ""),
-        edge("256 rows", one(256), &[], 9, (6, 0), ""),
+        edge("4,096 rows", one(4096), &[], 9, (6, 0), ""),
+        edge("256 rows and no cells", one(256), &[], 9, (8, 0), ""),
         edge("65,536 rows", one(65_536), &[], 9, (6, 0), ""),
         edge("a cell too few", one(1), &[], 9, (8, 0), ""),
         edge("the same row twice", one(2), &[5, 5], 9, (7, 0), ""),
@@ -232,9 +361,9 @@ pub fn writer() -> Vec<WriterEdge> {
         edge("10 before 7", catalogue(2, 1, &table(3, 2)), &[5, 5, 4, top], 99, (10, 0), ""),
         edge("7 in an earlier row than 10", one(3), &[5, 4, top], 99, (7, 0), ""),
         edge("the second table's scheme before the first's row", catalogue(1, 2, &[(1, 2, 0, 0), (0, 0, 2, 0)]), &[5, 5], 99, (5, 0), ""),
-        edge("the second table's count before the first's code", catalogue(1, 2, &[(1, 1, 0, 2), (1, 256, 1, 1)]), &[top], 99, (6, 0), ""),
+        edge("the second table's count before the first's code", catalogue(1, 2, &[(1, 1, 0, 2), (1, 4096, 1, 1)]), &[top], 99, (6, 0), ""),
         edge("the second table's cells before the first's code", catalogue(1, 2, &[(1, 1, 0, 2), (1, 1, 1, 1)]), &[top], 99, (8, 0), ""),
-        edge("the second table's scheme before its rows", catalogue(1, 2, &[(1, 0, 0, 0), (2, 256, 0, 0)]), &[], 99, (5, 0), ""),
+        edge("the second table's scheme before its rows", catalogue(1, 2, &[(1, 0, 0, 0), (2, 4096, 0, 0)]), &[], 99, (5, 0), ""),
         edge("two tables", pair([0, 1], [2, 1], 1), &[5, 5], 9, (0, 9), "01 01 02 01 01 05 01 01 05"),
         edge("the first place", pair([1, 1], [2, 1], 1), &[5, 5], 9, (16, 0), ""),
         edge("the second place is the first's", pair([0, 0], [2, 1], 1), &[5, 5], 9, (16, 0), ""),

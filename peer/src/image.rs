@@ -6,8 +6,12 @@ use crate::refusal::{Fault, Refusal};
 /// The lent cell slice may set a lower bound on the cells.
 pub const ATTRIBUTES: u64 = 63;
 pub const TABLES: u64 = 8;
-pub const ROWS: u64 = 255;
+pub const ROWS: u64 = 4095;
 pub const CELLS: usize = 8192;
+
+/// The most rows in a table of a version 1 image.
+/// Where a table has more, the image's version is 2 (request #110).
+pub const FIRST_ROWS: u64 = 255;
 
 /// What the tables look like, without their cells; where the cells of each begin, and the mask of the tables that touch it (request #106).
 /// Bit u of table t's mask stands for table u. Entries from n on are ignored when read and are 0 after a load.
@@ -57,6 +61,13 @@ impl Catalogue {
     /// n is in range, and the table below it.
     pub fn stored_right(&self, table: usize) -> bool {
         usize::from(self.places[table]) == self.first_cell(table) && self.touching[table] == self.neighbours(table)
+    }
+
+    /// The version of the tables' image: 2 exactly when some table has more rows than version 1 allows.
+    /// n is at most 8.
+    pub fn version(&self) -> u64 {
+        let long = self.rows[..self.n as usize].iter().any(|&rows| u64::from(rows) > FIRST_ROWS);
+        if long { 2 } else { 1 }
     }
 
     /// The same catalogue with places and masks worked out below n, and zeros from n on.
@@ -173,13 +184,25 @@ impl Reader<'_> {
     }
 }
 
+/// The most rows of a table that a version allows.
+/// The version is 1 or 2.
+fn most_rows(version: u64) -> u64 {
+    if version == 1 { FIRST_ROWS } else { ROWS }
+}
+
+/// Is a row refused where version 2 is read or would be written?
+/// It is if all its cells are null (request #111).
+fn all_null(row: &[u64]) -> bool {
+    row.iter().all(|&code| code == 0)
+}
+
 /// Reads an image with room for so many cells: the catalogue and the cells, or the first fault in reading order.
-/// Nothing lent is touched here.
+/// Nothing lent is touched here. 20 comes after all else: the version was 2 and need not have been.
 pub fn read(image: &[u8], lent: usize) -> Result<(Catalogue, Vec<u64>), Fault> {
     let mut reader = Reader { image, place: 0 };
     let mut catalogue = Catalogue::default();
     let mut cells = Vec::new();
-    reader.meant(Refusal::Version, |version| version == 1)?;
+    let version = reader.meant(Refusal::Version, |version| version == 1 || version == 2)?;
     let m = reader.meant(Refusal::Range, attributes_fit)?;
     let n = reader.meant(Refusal::Range, tables_fit)?;
     catalogue.m = m;
@@ -187,7 +210,7 @@ pub fn read(image: &[u8], lent: usize) -> Result<(Catalogue, Vec<u64>), Fault> {
     for table in 0..n as usize {
         catalogue.schemes[table] = reader.meant(Refusal::Scheme, |scheme| scheme_fits(scheme, m))?;
         let place = reader.place;
-        catalogue.rows[table] = reader.meant(Refusal::Rows, |rows| rows <= ROWS)? as u16;
+        catalogue.rows[table] = reader.meant(Refusal::Rows, |rows| rows <= most_rows(version))? as u16;
         if cells.len() + catalogue.size(table) > lent.min(CELLS) {
             return Err(Fault::at(place, Refusal::Cells));
         }
@@ -198,6 +221,9 @@ pub fn read(image: &[u8], lent: usize) -> Result<(Catalogue, Vec<u64>), Fault> {
             for _ in 0..catalogue.width(table) {
                 row.push(reader.number()?);
             }
+            if version == 2 && all_null(&row) {
+                return Err(Fault::at(place, Refusal::NullRow));
+            }
             if previous.is_some_and(|previous| previous >= row) {
                 return Err(Fault::at(place, Refusal::Order));
             }
@@ -207,6 +233,9 @@ pub fn read(image: &[u8], lent: usize) -> Result<(Catalogue, Vec<u64>), Fault> {
     }
     if reader.place < image.len() {
         return Err(Fault::at(reader.place, Refusal::Surplus));
+    }
+    if version != catalogue.version() {
+        return Err(Fault::at(0, Refusal::NeedlessVersion));
     }
     Ok((catalogue.filled(), cells))
 }
@@ -219,12 +248,13 @@ pub fn load(image: &[u8], lent: &mut [u64]) -> Result<Catalogue, Fault> {
     Ok(catalogue)
 }
 
-/// The image of the tables, or the first fault: 4; table by table 5, 6, 8; 16; then the rows of all tables, each 10, then 7.
+/// The image of the tables, or the first fault: 4; table by table 5, 6, 8; 16; then the rows of all tables, each 10, then 21 in version 2, then 7.
 /// A later table's entries are checked before an earlier table's rows (request #106).
 pub fn form(catalogue: &Catalogue, cells: &[u64]) -> Result<Vec<u8>, Refusal> {
     let mut image = Vec::new();
     check_catalogue(catalogue, cells.len())?;
-    for number in [1, catalogue.m, catalogue.n] {
+    let version = catalogue.version();
+    for number in [version, catalogue.m, catalogue.n] {
         numbers::encode(number, &mut image);
     }
     let mut place = 0;
@@ -236,6 +266,9 @@ pub fn form(catalogue: &Catalogue, cells: &[u64]) -> Result<Vec<u8>, Refusal> {
             let row = &cells[place..place + catalogue.width(table)];
             if row.iter().any(|&code| code >= 1 << 63) {
                 return Err(Refusal::Code);
+            }
+            if version == 2 && all_null(row) {
+                return Err(Refusal::NullRow);
             }
             if previous.is_some_and(|previous| previous >= row) {
                 return Err(Refusal::Order);

@@ -3,7 +3,7 @@ use crate::lent::Lent;
 use crate::library;
 use crate::make::Tables;
 use crate::random::Random;
-use crate::rule::{self, Answer, Asked, Outcome, Record, Store, Stop};
+use crate::rule::{self, Answer, Asked, Key, Outcome, Record, Store, Stop};
 use crate::stored;
 use crate::tally::Tally;
 use crate::words::{self, Call, CATALOGUE, HOLDING, RECORD, RESULT};
@@ -15,7 +15,8 @@ pub struct Lending {
     pub asked: Asked,
     pub catalogue: Lent<u64>,
     pub cells: Lent<u64>,
-    pub keys: Lent<u64>,
+    pub low: Lent<u64>,
+    pub high: Lent<u64>,
     pub left: Lent<u16>,
     pub right: Lent<u16>,
     pub record: Lent<u64>,
@@ -28,7 +29,7 @@ impl Lending {
     /// All but the tables starts as a random pattern; here and there a slice is longer than needed.
     pub fn of(random: &mut Random, tables: &Tables, asked: Asked, records: usize) -> Lending {
         let mut more = |needed: usize| needed + [0, 0, 0, 1, 3][random.range(0, 4)];
-        let (keys, left, right) = (more(records), more(records), more(records));
+        let (low, high, left, right) = (more(records), more(records), more(records), more(records));
         let (record, padded, result) = (more(record_words(asked)), more(tables.catalogue.m as usize), more(RESULT));
         let mut words = words::words_of(&tables.catalogue).to_vec();
         words.resize(more(CATALOGUE), 7);
@@ -38,7 +39,8 @@ impl Lending {
             asked,
             catalogue: Lent::holding(&words, random),
             cells: Lent::holding(&cells, random),
-            keys: Lent::pattern(keys, random),
+            low: Lent::pattern(low, random),
+            high: Lent::pattern(high, random),
             left: Lent::pattern(left, random),
             right: Lent::pattern(right, random),
             record: Lent::pattern(record, random),
@@ -50,7 +52,8 @@ impl Lending {
     /// Opens on these slices by the peer.
     /// It gives the answer.
     fn open(&mut self) -> u64 {
-        let mut store = Store { keys: self.keys.slice_mut(), left: self.left.slice_mut(), right: self.right.slice_mut() };
+        let (low, high) = (self.low.slice_mut(), self.high.slice_mut());
+        let mut store = Store { low, high, left: self.left.slice_mut(), right: self.right.slice_mut() };
         words::open(self.asked, self.catalogue.slice(), self.cells.slice(), &mut store, self.record.slice_mut())
     }
 
@@ -58,7 +61,8 @@ impl Lending {
     /// It gives the answer and the outcome.
     fn next(&mut self, budget: u64) -> (u64, Option<Outcome>) {
         let needed = self.record_words();
-        let mut store = Store { keys: self.keys.slice_mut(), left: self.left.slice_mut(), right: self.right.slice_mut() };
+        let (low, high) = (self.low.slice_mut(), self.high.slice_mut());
+        let mut store = Store { low, high, left: self.left.slice_mut(), right: self.right.slice_mut() };
         let call = Call { record: self.record.slice_mut(), budget, padded: self.padded.slice_mut(), result: self.result.slice_mut() };
         words::next(needed, self.catalogue.slice(), self.cells.slice(), &mut store, call)
     }
@@ -74,7 +78,20 @@ impl Lending {
     /// How many records the store has.
     /// The shortest slice counts.
     pub fn records(&self) -> usize {
-        self.keys.length().min(self.left.length()).min(self.right.length()).min(rule::RECORDS)
+        self.low.length().min(self.high.length()).min(self.left.length()).min(self.right.length()).min(rule::RECORDS)
+    }
+
+    /// The key of a record.
+    /// There is such a record.
+    pub fn key(&self, record: usize) -> Key {
+        Key::of(self.low.slice()[record], self.high.slice()[record])
+    }
+
+    /// Gives a record another key.
+    /// There is such a record.
+    pub fn set_key(&mut self, record: usize, key: Key) {
+        self.low.slice_mut()[record] = key.low;
+        self.high.slice_mut()[record] = key.high;
     }
 
     /// The stream record, if its slice holds one.
@@ -103,7 +120,8 @@ impl Lending {
         let differs = [
             ("catalogue", self.catalogue != other.catalogue),
             ("cells", self.cells != other.cells),
-            ("keys", self.keys != other.keys),
+            ("first words", self.low != other.low),
+            ("second words", self.high != other.high),
             ("left links", self.left != other.left),
             ("right links", self.right != other.right),
             ("record", self.record != other.record),
@@ -119,8 +137,9 @@ impl Lending {
         let first = |words: &[u64]| words.iter().take(40).map(u64::to_string).collect::<Vec<_>>().join(" ");
         let links = |words: &[u16]| words.iter().take(40).map(u16::to_string).collect::<Vec<_>>().join(" ");
         format!(
-            "\n  catalogue {}\n  cells ({}) {}\n  keys ({}) {}\n  left ({}) {}\n  right ({}) {}\n  record {}\n  padded ({}) {}\n  result {}",
-            first(self.catalogue.slice()), self.cells.length(), first(self.cells.slice()), self.keys.length(), first(self.keys.slice()),
+            "\n  catalogue {}\n  cells ({}) {}\n  low ({}) {}\n  high ({}) {}\n  left ({}) {}\n  right ({}) {}\n  record {}\n  padded ({}) {}\n  result {}",
+            first(self.catalogue.slice()), self.cells.length(), first(self.cells.slice()), self.low.length(), first(self.low.slice()),
+            self.high.length(), first(self.high.slice()),
             self.left.length(), links(self.left.slice()), self.right.length(), links(self.right.slice()), first(self.record.slice()),
             self.padded.length(), first(self.padded.slice()), first(self.result.slice())
         )
@@ -185,7 +204,8 @@ impl Pair {
         let before = self.ours.clone();
         let ours = self.ours.open();
         let lent = &mut self.theirs;
-        let mut store = Store { keys: lent.keys.slice_mut(), left: lent.left.slice_mut(), right: lent.right.slice_mut() };
+        let (low, high) = (lent.low.slice_mut(), lent.high.slice_mut());
+        let mut store = Store { low, high, left: lent.left.slice_mut(), right: lent.right.slice_mut() };
         let (catalogue, cells, record) = (lent.catalogue.slice(), lent.cells.slice(), lent.record.slice_mut());
         let (call, theirs) = match lent.asked {
             Asked::EverySet => ("open", library::open(catalogue, cells, &mut store, record)),
@@ -203,19 +223,54 @@ impl Pair {
         let before = self.ours.clone();
         let (ours, outcome) = self.ours.next(budget);
         let lent = &mut self.theirs;
-        let mut store = Store { keys: lent.keys.slice_mut(), left: lent.left.slice_mut(), right: lent.right.slice_mut() };
+        let (low, high) = (lent.low.slice_mut(), lent.high.slice_mut());
+        let mut store = Store { low, high, left: lent.left.slice_mut(), right: lent.right.slice_mut() };
         let call = Call { record: lent.record.slice_mut(), budget, padded: lent.padded.slice_mut(), result: lent.result.slice_mut() };
         let (name, theirs) = match lent.asked {
             Asked::EverySet => ("next", library::next(lent.catalogue.slice(), lent.cells.slice(), &mut store, call)),
             Asked::Holding { .. } => ("next_holding", library::next_holding(lent.catalogue.slice(), lent.cells.slice(), &mut store, call)),
         };
         let count = |place: usize| self.ours.result.slice().get(place).copied().unwrap_or(0);
-        tally.meet(name, name_of(outcome, &before, count(1), count(3)));
+        tally.meet(name, name_of(outcome, &before, count(2), count(4)));
+        note_keys(tally, name, outcome, &before);
         stored::note(tally, name, ours % 32, before.catalogue.slice(), |words| before.with_catalogue(words).next(budget).0);
         self.same(&format!("{name} with budget {budget}"), ours, theirs, &before)?;
         Ok(ours)
     }
 }
+
+/// Counts what an outcome tells of two-word keys: row numbers above 255 in either word, and the spare bits of a key that is found damaged.
+/// `before` is what was lent to the call; a key that is tried on stands in it.
+fn note_keys(tally: &mut Tally, call: &str, outcome: Option<Outcome>, before: &Lending) {
+    let words = format!("{call} keys");
+    if let Some(Outcome::Answered(Answer::Set(key))) = outcome {
+        if (0..5).any(|table| key.row(table) > 255) {
+            tally.note(&words, "set above 255");
+        }
+        if (5..8).any(|table| key.row(table) > 255) {
+            tally.note(&words, "set above 255 in the second word");
+        }
+        if key.high != 0 {
+            tally.note(&words, "set with a second word");
+        }
+    }
+    let taken = before.stream_record().map_or(0, |record| record.taken as usize);
+    let damaged = match outcome {
+        Some(Outcome::Stopped(Stop::KeyHandedOut)) => Some((before.key(taken), "14 spare bit handed out")),
+        Some(Outcome::Stopped(Stop::KeyTriedOn)) => Some((before.key(taken - 1), "14 spare bit tried on")),
+        _ => None,
+    };
+    if let Some((key, name)) = damaged {
+        if key.spare() && key.unspared() != Key::default() {
+            tally.note(&words, name);
+        }
+    }
+}
+
+/// How a run names what it met of two-word keys.
+/// A run has to meet each of them.
+pub const KEYS: [&str; 5] =
+    ["set above 255", "set above 255 in the second word", "set with a second word", "14 spare bit handed out", "14 spare bit tried on"];
 
 /// The name of open's answer in the printed table.
 /// 19 is told apart by what is not there, and by whether 12 would be met too.

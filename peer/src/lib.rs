@@ -24,6 +24,8 @@ pub mod library;
 pub mod listing;
 #[cfg(feature = "stream")]
 pub mod lists;
+#[cfg(feature = "stream")]
+pub mod longkeys;
 pub mod make;
 pub mod numbers;
 pub mod random;

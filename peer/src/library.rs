@@ -25,26 +25,30 @@ extern "C" {
     #[allow(clippy::too_many_arguments)]
     fn harbour_open(
         catalogue: *const u64, catalogue_length: usize, cells: *const u64, cells_length: usize,
-        keys: *mut u64, keys_length: usize, left: *mut u16, left_length: usize, right: *mut u16, right_length: usize,
+        low: *mut u64, low_length: usize, high: *mut u64, high_length: usize,
+        left: *mut u16, left_length: usize, right: *mut u16, right_length: usize,
         record: *mut u64, record_length: usize,
     ) -> u64;
     #[allow(clippy::too_many_arguments)]
     fn harbour_next(
         catalogue: *const u64, catalogue_length: usize, cells: *const u64, cells_length: usize,
-        keys: *mut u64, keys_length: usize, left: *mut u16, left_length: usize, right: *mut u16, right_length: usize,
+        low: *mut u64, low_length: usize, high: *mut u64, high_length: usize,
+        left: *mut u16, left_length: usize, right: *mut u16, right_length: usize,
         record: *mut u64, record_length: usize, budget: u64,
         padded: *mut u64, padded_length: usize, result: *mut u64, result_length: usize,
     ) -> u64;
     #[allow(clippy::too_many_arguments)]
     fn harbour_open_holding(
         catalogue: *const u64, catalogue_length: usize, cells: *const u64, cells_length: usize,
-        keys: *mut u64, keys_length: usize, left: *mut u16, left_length: usize, right: *mut u16, right_length: usize,
+        low: *mut u64, low_length: usize, high: *mut u64, high_length: usize,
+        left: *mut u16, left_length: usize, right: *mut u16, right_length: usize,
         table: u64, row: u64, record: *mut u64, record_length: usize,
     ) -> u64;
     #[allow(clippy::too_many_arguments)]
     fn harbour_next_holding(
         catalogue: *const u64, catalogue_length: usize, cells: *const u64, cells_length: usize,
-        keys: *mut u64, keys_length: usize, left: *mut u16, left_length: usize, right: *mut u16, right_length: usize,
+        low: *mut u64, low_length: usize, high: *mut u64, high_length: usize,
+        left: *mut u16, left_length: usize, right: *mut u16, right_length: usize,
         record: *mut u64, record_length: usize, budget: u64,
         padded: *mut u64, padded_length: usize, result: *mut u64, result_length: usize,
     ) -> u64;
@@ -52,7 +56,7 @@ extern "C" {
     #[allow(clippy::too_many_arguments)]
     fn harbour_check_list(
         catalogue: *const u64, catalogue_length: usize, cells: *const u64, cells_length: usize,
-        listed: *const u64, listed_length: usize, result: *mut u64, result_length: usize,
+        low: *const u64, low_length: usize, high: *const u64, high_length: usize, result: *mut u64, result_length: usize,
     ) -> u64;
 }
 
@@ -96,7 +100,8 @@ pub fn open(catalogue: &[u64], cells: &[u64], store: &mut Store, record: &mut [u
     unsafe {
         harbour_open(
             catalogue.as_ptr(), catalogue.len(), cells.as_ptr(), cells.len(),
-            store.keys.as_mut_ptr(), store.keys.len(), store.left.as_mut_ptr(), store.left.len(), store.right.as_mut_ptr(), store.right.len(),
+            store.low.as_mut_ptr(), store.low.len(), store.high.as_mut_ptr(), store.high.len(),
+            store.left.as_mut_ptr(), store.left.len(), store.right.as_mut_ptr(), store.right.len(),
             record.as_mut_ptr(), record.len(),
         )
     }
@@ -109,7 +114,8 @@ pub fn next(catalogue: &[u64], cells: &[u64], store: &mut Store, call: Call) -> 
     unsafe {
         harbour_next(
             catalogue.as_ptr(), catalogue.len(), cells.as_ptr(), cells.len(),
-            store.keys.as_mut_ptr(), store.keys.len(), store.left.as_mut_ptr(), store.left.len(), store.right.as_mut_ptr(), store.right.len(),
+            store.low.as_mut_ptr(), store.low.len(), store.high.as_mut_ptr(), store.high.len(),
+            store.left.as_mut_ptr(), store.left.len(), store.right.as_mut_ptr(), store.right.len(),
             call.record.as_mut_ptr(), call.record.len(), call.budget,
             call.padded.as_mut_ptr(), call.padded.len(), call.result.as_mut_ptr(), call.result.len(),
         )
@@ -123,7 +129,8 @@ pub fn open_holding(catalogue: &[u64], cells: &[u64], store: &mut Store, table: 
     unsafe {
         harbour_open_holding(
             catalogue.as_ptr(), catalogue.len(), cells.as_ptr(), cells.len(),
-            store.keys.as_mut_ptr(), store.keys.len(), store.left.as_mut_ptr(), store.left.len(), store.right.as_mut_ptr(), store.right.len(),
+            store.low.as_mut_ptr(), store.low.len(), store.high.as_mut_ptr(), store.high.len(),
+            store.left.as_mut_ptr(), store.left.len(), store.right.as_mut_ptr(), store.right.len(),
             table, row, record.as_mut_ptr(), record.len(),
         )
     }
@@ -136,7 +143,8 @@ pub fn next_holding(catalogue: &[u64], cells: &[u64], store: &mut Store, call: C
     unsafe {
         harbour_next_holding(
             catalogue.as_ptr(), catalogue.len(), cells.as_ptr(), cells.len(),
-            store.keys.as_mut_ptr(), store.keys.len(), store.left.as_mut_ptr(), store.left.len(), store.right.as_mut_ptr(), store.right.len(),
+            store.low.as_mut_ptr(), store.low.len(), store.high.as_mut_ptr(), store.high.len(),
+            store.left.as_mut_ptr(), store.left.len(), store.right.as_mut_ptr(), store.right.len(),
             call.record.as_mut_ptr(), call.record.len(), call.budget,
             call.padded.as_mut_ptr(), call.padded.len(), call.result.as_mut_ptr(), call.result.len(),
         )
@@ -153,10 +161,12 @@ pub fn covers(first: &[u64], second: &[u64]) -> u64 {
 /// The library's check of a list of keys.
 /// See `lists::check_list`.
 #[cfg(feature = "stream")]
-pub fn check_list(catalogue: &[u64], cells: &[u64], listed: &[u64], result: &mut [u64]) -> u64 {
+pub fn check_list(catalogue: &[u64], cells: &[u64], listed: (&[u64], &[u64]), result: &mut [u64]) -> u64 {
+    let (low, high) = listed;
     unsafe {
         harbour_check_list(
-            catalogue.as_ptr(), catalogue.len(), cells.as_ptr(), cells.len(), listed.as_ptr(), listed.len(), result.as_mut_ptr(), result.len(),
+            catalogue.as_ptr(), catalogue.len(), cells.as_ptr(), cells.len(), low.as_ptr(), low.len(), high.as_ptr(), high.len(),
+            result.as_mut_ptr(), result.len(),
         )
     }
 }
@@ -228,10 +238,12 @@ mod mock {
     #[allow(clippy::too_many_arguments)]
     unsafe extern "C" fn harbour_open(
         catalogue: *const u64, catalogue_length: usize, cells: *const u64, cells_length: usize,
-        keys: *mut u64, keys_length: usize, left: *mut u16, left_length: usize, right: *mut u16, right_length: usize,
+        low: *mut u64, low_length: usize, high: *mut u64, high_length: usize,
+        left: *mut u16, left_length: usize, right: *mut u16, right_length: usize,
         record: *mut u64, record_length: usize,
     ) -> u64 {
-        let mut store = Store { keys: lent_mut(keys, keys_length), left: lent_mut(left, left_length), right: lent_mut(right, right_length) };
+        let (low, high) = (lent_mut(low, low_length), lent_mut(high, high_length));
+        let mut store = Store { low, high, left: lent_mut(left, left_length), right: lent_mut(right, right_length) };
         words::open(Asked::EverySet, lent(catalogue, catalogue_length), lent(cells, cells_length), &mut store, lent_mut(record, record_length))
     }
 
@@ -241,10 +253,12 @@ mod mock {
     #[allow(clippy::too_many_arguments)]
     unsafe extern "C" fn harbour_open_holding(
         catalogue: *const u64, catalogue_length: usize, cells: *const u64, cells_length: usize,
-        keys: *mut u64, keys_length: usize, left: *mut u16, left_length: usize, right: *mut u16, right_length: usize,
+        low: *mut u64, low_length: usize, high: *mut u64, high_length: usize,
+        left: *mut u16, left_length: usize, right: *mut u16, right_length: usize,
         table: u64, row: u64, record: *mut u64, record_length: usize,
     ) -> u64 {
-        let mut store = Store { keys: lent_mut(keys, keys_length), left: lent_mut(left, left_length), right: lent_mut(right, right_length) };
+        let (low, high) = (lent_mut(low, low_length), lent_mut(high, high_length));
+        let mut store = Store { low, high, left: lent_mut(left, left_length), right: lent_mut(right, right_length) };
         let asked = Asked::Holding { table, row };
         words::open(asked, lent(catalogue, catalogue_length), lent(cells, cells_length), &mut store, lent_mut(record, record_length))
     }
@@ -255,11 +269,13 @@ mod mock {
     #[allow(clippy::too_many_arguments)]
     unsafe extern "C" fn harbour_next(
         catalogue: *const u64, catalogue_length: usize, cells: *const u64, cells_length: usize,
-        keys: *mut u64, keys_length: usize, left: *mut u16, left_length: usize, right: *mut u16, right_length: usize,
+        low: *mut u64, low_length: usize, high: *mut u64, high_length: usize,
+        left: *mut u16, left_length: usize, right: *mut u16, right_length: usize,
         record: *mut u64, record_length: usize, budget: u64,
         padded: *mut u64, padded_length: usize, result: *mut u64, result_length: usize,
     ) -> u64 {
-        let mut store = Store { keys: lent_mut(keys, keys_length), left: lent_mut(left, left_length), right: lent_mut(right, right_length) };
+        let (low, high) = (lent_mut(low, low_length), lent_mut(high, high_length));
+        let mut store = Store { low, high, left: lent_mut(left, left_length), right: lent_mut(right, right_length) };
         let call = words::Call {
             record: lent_mut(record, record_length),
             budget,
@@ -275,11 +291,13 @@ mod mock {
     #[allow(clippy::too_many_arguments)]
     unsafe extern "C" fn harbour_next_holding(
         catalogue: *const u64, catalogue_length: usize, cells: *const u64, cells_length: usize,
-        keys: *mut u64, keys_length: usize, left: *mut u16, left_length: usize, right: *mut u16, right_length: usize,
+        low: *mut u64, low_length: usize, high: *mut u64, high_length: usize,
+        left: *mut u16, left_length: usize, right: *mut u16, right_length: usize,
         record: *mut u64, record_length: usize, budget: u64,
         padded: *mut u64, padded_length: usize, result: *mut u64, result_length: usize,
     ) -> u64 {
-        let mut store = Store { keys: lent_mut(keys, keys_length), left: lent_mut(left, left_length), right: lent_mut(right, right_length) };
+        let (low, high) = (lent_mut(low, low_length), lent_mut(high, high_length));
+        let mut store = Store { low, high, left: lent_mut(left, left_length), right: lent_mut(right, right_length) };
         let call = words::Call {
             record: lent_mut(record, record_length),
             budget,
@@ -302,10 +320,11 @@ mod mock {
     #[allow(clippy::too_many_arguments)]
     unsafe extern "C" fn harbour_check_list(
         catalogue: *const u64, catalogue_length: usize, cells: *const u64, cells_length: usize,
-        listed: *const u64, listed_length: usize, result: *mut u64, result_length: usize,
+        low: *const u64, low_length: usize, high: *const u64, high_length: usize, result: *mut u64, result_length: usize,
     ) -> u64 {
         let (catalogue, cells) = (lent(catalogue, catalogue_length), lent(cells, cells_length));
         let maximal = if catalogue.len() < words::CATALOGUE { Default::default() } else { lists::drained(&words::catalogue_of(catalogue), cells) };
-        lists::check_list(catalogue, cells, lent(listed, listed_length), &maximal, lent_mut(result, result_length))
+        let listed = (lent(low, low_length), lent(high, high_length));
+        lists::check_list(catalogue, cells, listed, &maximal, lent_mut(result, result_length))
     }
 }

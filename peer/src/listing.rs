@@ -39,8 +39,8 @@ pub fn list_by(input: &[u8], open: Open, next: Next) -> String {
             return text;
         }
     };
-    let (mut keys, mut left, mut right) = (vec![0; RECORDS], vec![0; RECORDS], vec![0; RECORDS]);
-    let mut store = Store { keys: &mut keys, left: &mut left, right: &mut right };
+    let (mut low, mut high, mut left, mut right) = (vec![0; RECORDS], vec![0; RECORDS], vec![0; RECORDS], vec![0; RECORDS]);
+    let mut store = Store { low: &mut low, high: &mut high, left: &mut left, right: &mut right };
     let (mut record, row_tests) = open(&catalogue, &cells, &mut store).expect("a loaded image opens");
     let total: u64 = catalogue.rows.iter().map(|&rows| u64::from(rows)).sum();
     writeln!(text, "tables {} {} {} {}", catalogue.m, catalogue.n, total, row_tests).unwrap();

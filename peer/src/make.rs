@@ -2,6 +2,7 @@
 use crate::image::{self, Catalogue};
 use crate::numbers;
 use crate::random::Random;
+use crate::rule::Key;
 use crate::stored;
 use crate::words::{words_of, CATALOGUE, GIVEN, ROWS, SCHEMES};
 use std::collections::BTreeSet;
@@ -56,9 +57,9 @@ fn code(random: &mut Random, codes: Codes) -> u64 {
     .min((1 << 63) - 1)
 }
 
-/// So many different rows in rising order, if the codes allow it.
+/// So many different rows in rising order, if the codes allow it, among them one of nulls only where it may be.
 /// If they do not, rows with other codes fill up.
-fn rows(random: &mut Random, width: usize, wanted: usize, codes: Codes) -> BTreeSet<Vec<u64>> {
+fn rows(random: &mut Random, width: usize, wanted: usize, codes: Codes, nulls: bool) -> BTreeSet<Vec<u64>> {
     let mut rows = BTreeSet::new();
     let mut tries = 0;
     while rows.len() < wanted {
@@ -67,7 +68,9 @@ fn rows(random: &mut Random, width: usize, wanted: usize, codes: Codes) -> BTree
         if tries > 2 * wanted {
             row[0] = random.word() >> 1;
         }
-        rows.insert(row);
+        if nulls || row.iter().any(|&code| code != 0) {
+            rows.insert(row);
+        }
     }
     rows
 }
@@ -86,15 +89,16 @@ fn scheme(random: &mut Random, m: usize, width: usize) -> u64 {
 }
 
 /// Tables of the given widths and row counts over m attributes.
-/// The codes change from table to table.
+/// The codes change from table to table. Where version 2 is needed no row is all null.
 fn tables(random: &mut Random, m: usize, shapes: &[(usize, usize)]) -> Tables {
     let mut catalogue = Catalogue { m: m as u64, n: shapes.len() as u64, ..Catalogue::default() };
     let mut cells = Vec::new();
+    let nulls = shapes.iter().all(|&(_, count)| count as u64 <= image::FIRST_ROWS);
     for (table, &(width, count)) in shapes.iter().enumerate() {
         let codes = random.pick(&ALL_CODES);
         catalogue.schemes[table] = scheme(random, m, width);
         catalogue.rows[table] = count as u16;
-        for row in rows(random, width, count, codes) {
+        for row in rows(random, width, count, codes, nulls) {
             cells.extend(row);
         }
     }
@@ -116,7 +120,33 @@ fn shapes_of(random: &mut Random, m: usize, total: usize) -> Vec<(usize, usize)>
     shapes
 }
 
-/// Good tables of many shapes; now and then above 8,192 cells.
+/// Shapes that need version 2: one table or more of just above 255 rows, with short ones beside it.
+/// All are narrow.
+fn long_shapes(random: &mut Random, m: usize) -> Vec<(usize, usize)> {
+    let mut shapes: Vec<(usize, usize)> = (0..random.range(1, 4)).map(|_| (random.range(1, m), random.range(0, 5))).collect();
+    for _ in 0..random.pick(&[1, 1, 2]) {
+        let table = random.range(0, shapes.len() - 1);
+        shapes[table].1 = random.pick(&[255, 256, 256, 256, 257, 258, 300]);
+    }
+    shapes
+}
+
+/// Shapes about the most rows of a table, and about 8,192 rows of all tables together.
+/// Some pass them.
+fn longest_shapes(random: &mut Random) -> Vec<(usize, usize)> {
+    match random.below(8) {
+        0 => vec![(1, 4095)],
+        1 => vec![(1, 4096)],
+        2 => vec![(2, random.range(4094, 4096))],
+        3 => vec![(1, 4095), (1, 4095), (1, 2)],
+        4 => vec![(1, 4095), (1, 4095), (1, 3)],
+        5 => vec![(1, random.range(1023, 1025)); 8],
+        6 => vec![(1, random.range(4094, 4096)), (1, random.range(0, 300)), (1, random.range(0, 2))],
+        _ => vec![(1, random.range(256, 4096)), (2, random.range(0, 3))],
+    }
+}
+
+/// Good tables of many shapes; now and then above 8,192 cells or 4,095 rows.
 /// Most are small, so that a run holds many of them.
 pub fn any_tables(random: &mut Random) -> Tables {
     let style = random.below(1000);
@@ -137,13 +167,22 @@ pub fn any_tables(random: &mut Random) -> Tables {
                 shapes.push((random.range(1, m.min(9)), random.range(0, 7)));
             }
         }
-        900..=939 => shapes.push((m, random.range(0, 8))),
-        940..=975 => {
+        900..=923 => shapes.push((m, random.range(0, 8))),
+        924..=940 => {
             for _ in 0..random.range(1, 2) {
                 shapes.push((1, random.pick(&[127, 128, 200, 254, 255])));
             }
         }
-        976..=985 => return tables(random, 63, &[(63, 128 + style as usize % 4)]),
+        941..=970 => {
+            let m = random.range(1, 4);
+            let shapes = long_shapes(random, m);
+            return tables(random, m, &shapes);
+        }
+        971..=974 => {
+            let shapes = longest_shapes(random);
+            return tables(random, 2, &shapes);
+        }
+        975..=985 => return tables(random, 63, &[(63, 128 + style as usize % 4)]),
         _ => {
             let total = random.pick(&[8100, 8189, 8190, 8191, 8192, 8193, 8194, 8300]);
             let m = random.range(40, 63);
@@ -188,7 +227,7 @@ struct Field {
 fn fields(tables: &Tables) -> Vec<Field> {
     let mut fields = Vec::new();
     let mut push = |kind, value| fields.push(Field { kind, value, form: Form::Shortest });
-    push(Kind::Version, 1);
+    push(Kind::Version, tables.catalogue.version());
     push(Kind::M, tables.catalogue.m);
     push(Kind::N, tables.catalogue.n);
     let mut place = 0;
@@ -247,6 +286,20 @@ fn disorder(random: &mut Random, tables: &mut Tables) -> bool {
     true
 }
 
+/// Makes a row all null, mostly the first of a table, which leaves the rows in order.
+/// Tables without rows stay.
+fn nullify(random: &mut Random, tables: &mut Tables) {
+    let filled: Vec<usize> = (0..tables.catalogue.n as usize).filter(|&table| tables.catalogue.rows[table] > 0).collect();
+    if filled.is_empty() {
+        return;
+    }
+    let table = random.pick(&filled);
+    let width = tables.catalogue.width(table);
+    let row = if random.percent(60) { 0 } else { random.range(0, usize::from(tables.catalogue.rows[table]) - 1) };
+    let start = tables.catalogue.first_cell(table) + row * width;
+    tables.cells[start..start + width].fill(0);
+}
+
 /// Gives one number of a kind another value.
 /// Which one is chosen by chance.
 fn strike(random: &mut Random, fields: &mut [Field], kind: Kind, value: u64) {
@@ -284,11 +337,17 @@ fn scratch(random: &mut Random, image: &mut Vec<u8>) {
 /// Aimed damage makes each refusal; scratches are added now and then.
 pub fn damaged(random: &mut Random, mut tables: Tables) -> Vec<u8> {
     let m = tables.catalogue.m;
-    let mut kind = random.below(12);
+    let mut kind = random.below(14);
     if kind == 0 && !disorder(random, &mut tables) {
         kind = 9;
     }
+    if kind == 13 || kind == 0 && random.percent(30) {
+        nullify(random, &mut tables);
+    }
     let mut fields = fields(&tables);
+    if kind >= 12 || random.percent(25) {
+        fields[0].value = random.pick(&[1, 2, 2]);
+    }
     let any = random.range(0, fields.len() - 1);
     match kind {
         1 => fields[0].value = other_version(random.word()),
@@ -301,7 +360,7 @@ pub fn damaged(random: &mut Random, mut tables: Tables) -> Vec<u8> {
             strike(random, &mut fields, Kind::Scheme, value);
         }
         5 | 6 => {
-            let value = random.pick(&[256, 255, 257, 65_535, 65_536, 65_537, 1 << 32, (1 << 63) - 1]);
+            let value = random.pick(&[256, 255, 257, 3000, 4095, 4095, 4096, 4096, 4097, 65_535, 65_536, 65_537, 1 << 32, (1 << 63) - 1]);
             strike(random, &mut fields, Kind::Rows, value);
         }
         7 => {
@@ -313,7 +372,7 @@ pub fn damaged(random: &mut Random, mut tables: Tables) -> Vec<u8> {
         _ => {}
     }
     let mut image = bytes(&fields);
-    if kind > 8 || random.percent(10) {
+    if (9..12).contains(&kind) || random.percent(10) {
         for _ in 0..random.range(1, 3) {
             scratch(random, &mut image);
         }
@@ -321,14 +380,14 @@ pub fn damaged(random: &mut Random, mut tables: Tables) -> Vec<u8> {
     image
 }
 
-/// A version other than 1, below 2^63.
-/// Versions near 1 are frequent.
+/// A version other than 1 and 2, below 2^63.
+/// Versions near them are frequent.
 fn other_version(bits: u64) -> u64 {
     match bits % 4 {
         0 => 0,
-        1 => 2,
-        2 => 129,
-        _ => bits >> 1 | 2,
+        1 => 3,
+        2 => 129 + (bits >> 2 & 1),
+        _ => bits >> 1 | 4,
     }
 }
 
@@ -387,7 +446,7 @@ pub fn spoil(random: &mut Random, words: &mut [u64], refusal: u64) {
             let above = 1u64 << words[0].min(63);
             words[SCHEMES + table] = random.pick(&[0, above, words[SCHEMES + table] | above, 1 << 63, u64::MAX]);
         }
-        6 => words[ROWS + table] = random.pick(&[256, 257, 511, 512, 65_535, 65_536, 65_537, 1 << 32, 1 << 63, u64::MAX]),
+        6 => words[ROWS + table] = random.pick(&[4096, 4097, 8191, 8192, 65_535, 65_536, 65_537, 1 << 32, 1 << 63, u64::MAX]),
         16 => stored::spoil(random, words),
         _ => {}
     }
@@ -422,13 +481,16 @@ pub fn given_case(random: &mut Random, tables: &Tables) -> Vec<u64> {
 pub fn writer_case(random: &mut Random, mut tables: Tables) -> WriterCase {
     let mut faults = Vec::new();
     for _ in 0..random.pick(&[0, 0, 0, 1, 1, 1, 1, 2, 3]) {
-        faults.push(random.pick(&[4, 5, 6, 7, 8, 10, 11, 16, 16, 16]));
+        faults.push(random.pick(&[4, 5, 6, 7, 8, 10, 11, 16, 16, 16, 21]));
     }
     if random.percent(5) {
         faults = vec![random.pick(&[5, 6, 8]), random.pick(&[7, 10]), 10];
     }
     if faults.contains(&7) {
         disorder(random, &mut tables);
+    }
+    if faults.contains(&21) || tables.catalogue.version() == 2 && random.percent(40) {
+        nullify(random, &mut tables);
     }
     let length = good(&tables).len();
     let needed = tables.cells.len();
@@ -514,6 +576,52 @@ pub fn stream_tables(random: &mut Random, most: usize) -> Tables {
         cells.extend(rows.into_iter().flatten());
     }
     Tables::of(catalogue, cells)
+}
+
+/// Long tables for a stream: one of above 255 rows among up to eight, most of them short, that share an attribute; the first often joins a late row of it.
+/// Codes of short tables are those of rows about 256 and at the ends of the long one.
+pub fn long_tables(random: &mut Random) -> Tables {
+    let n = random.pick(&[1, 2, 3, 4, 5, 6, 6, 7, 7, 8, 8]);
+    let least = if n > 5 && random.percent(70) { 5 } else { 0 };
+    let long = random.range(least, n - 1);
+    let count = random.pick(&[256, 256, 257, 300, 511, 512, 4095]);
+    let mut catalogue = Catalogue { m: 2, n: n as u64, ..Catalogue::default() };
+    let mut cells = Vec::new();
+    for table in 0..n {
+        catalogue.schemes[table] = random.pick(&[1, 1, 3]);
+        let codes: BTreeSet<u64> = if table == long {
+            (2..count + 2).collect()
+        } else {
+            (0..random.range(0, 2)).map(|_| random.pick(&[2, 256, 257, 258, count + 1, count + 1, count + 2])).collect()
+        };
+        catalogue.rows[table] = codes.len() as u16;
+        for code in codes {
+            cells.push(code);
+            if catalogue.schemes[table] == 3 {
+                cells.push(random.below(3));
+            }
+        }
+    }
+    Tables::of(catalogue, cells)
+}
+
+/// Eight tables of one attribute of which two have rows: the last of a key's first word and the first of its second. Row r of each has code r + 1.
+/// Rows of one number join, and nothing else does.
+pub fn long_pair(first: u16, second: u16) -> Tables {
+    let mut catalogue = Catalogue { m: 1, n: 8, schemes: [1; 8], ..Catalogue::default() };
+    (catalogue.rows[4], catalogue.rows[5]) = (first, second);
+    let codes = |count: u16| 2..u64::from(count) + 2;
+    Tables::of(catalogue, codes(first).chain(codes(second)).collect())
+}
+
+/// A key with one of its spare bits changed: of four in the first word and 28 in the second.
+/// Those of the first word come as often.
+pub fn spare_bit(random: &mut Random, key: Key) -> Key {
+    if random.percent(50) {
+        Key::of(key.low ^ 1 << random.range(60, 63), key.high)
+    } else {
+        Key::of(key.low, key.high ^ 1 << random.range(36, 63))
+    }
 }
 
 /// A star of tables whose rows all join: the number of sets is the product of the row counts.

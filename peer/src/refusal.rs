@@ -21,6 +21,8 @@ pub enum Refusal {
     Stored = 16,
     Endless = 17,
     NoRow = 19,
+    NeedlessVersion = 20,
+    NullRow = 21,
 }
 
 impl Refusal {

@@ -10,24 +10,64 @@ pub const RECORDS: usize = 65_535;
 /// Entries from n on are 0.
 pub type Set = [u16; 8];
 
-/// The key of a set: byte i, lowest first, holds the row number of table i.
-/// Row numbers are at most 255.
-pub fn key_of(set: &Set) -> u64 {
-    let mut key = 0;
-    for (table, &row) in set.iter().enumerate() {
-        key |= u64::from(row) << (8 * table);
-    }
-    key
+/// The bits of a row number in a key.
+/// Row numbers are at most 4,095 (request #110).
+pub const ROW_BITS: usize = 12;
+
+/// The key of a set: two words of row numbers, tables 0 to 4 in `low` from its lowest bit on, 5 to 7 in `high`.
+/// `high` stands first, since it counts first where keys are put in order.
+#[derive(Clone, Copy, Debug, Default, PartialEq, Eq, PartialOrd, Ord, Hash)]
+pub struct Key {
+    pub high: u64,
+    pub low: u64,
 }
 
-/// The set of a key.
-/// It may name rows that are not there.
-pub fn set_of(key: u64) -> Set {
-    let mut set = [0; 8];
-    for (table, row) in set.iter_mut().enumerate() {
-        *row = (key >> (8 * table) & 0xff) as u16;
+impl Key {
+    /// A key from its words, the first one first.
+    /// Any words may be given.
+    pub fn of(low: u64, high: u64) -> Key {
+        Key { high, low }
     }
-    set
+
+    /// The row number that the key holds for a table.
+    /// It may be one that is not there.
+    pub fn row(self, table: usize) -> u16 {
+        let word = if table < 5 { self.low >> (ROW_BITS * table) } else { self.high >> (ROW_BITS * (table - 5)) };
+        (word & 0xfff) as u16
+    }
+
+    /// The key with another row number for a table.
+    /// All other bits stay.
+    pub fn with_row(self, table: usize, row: u16) -> Key {
+        let mut key = self;
+        let (word, place) = if table < 5 { (&mut key.low, ROW_BITS * table) } else { (&mut key.high, ROW_BITS * (table - 5)) };
+        *word = *word & !(0xfff << place) | u64::from(row) << place;
+        key
+    }
+
+    /// The key without its spare bits.
+    /// Only row numbers are left.
+    pub fn unspared(self) -> Key {
+        Key::of(self.low & (1 << 60) - 1, self.high & (1 << 36) - 1)
+    }
+
+    /// Is a spare bit set: 60 to 63 of the first word, or 36 to 63 of the second?
+    /// Such a bit names a missing row.
+    pub fn spare(self) -> bool {
+        self.low >> 60 != 0 || self.high >> 36 != 0
+    }
+}
+
+/// The key of a set.
+/// Row numbers are at most 4,095.
+pub fn key_of(set: &Set) -> Key {
+    set.iter().enumerate().fold(Key::default(), |key, (table, &row)| key.with_row(table, row))
+}
+
+/// The set of a key, spare bits aside.
+/// It may name rows that are not there.
+pub fn set_of(key: Key) -> Set {
+    std::array::from_fn(|table| key.row(table))
 }
 
 /// The tables under a stream: a checked catalogue and the lent cells.
@@ -56,7 +96,7 @@ impl<'a> Tables<'a> {
     }
 
     /// N, the number of all rows.
-    /// At most 2,040.
+    /// At most 8,192.
     pub fn total(&self) -> u64 {
         self.order.len() as u64
     }
@@ -167,7 +207,7 @@ impl<'a> Tables<'a> {
 
     /// The key of the set that the first row alone extends to.
     /// None without rows.
-    pub fn first_extended(&self) -> Option<u64> {
+    pub fn first_extended(&self) -> Option<Key> {
         let &first = self.order.first()?;
         let mut set = [0; 8];
         set[first.0] = first.1;
@@ -177,17 +217,17 @@ impl<'a> Tables<'a> {
 
     /// The key of the set that a trial of the row at a place in row order comes to.
     /// The key on which it is tried names rows that are there.
-    pub fn reached(&self, key: u64, place: usize) -> u64 {
+    pub fn reached(&self, key: Key, place: usize) -> Key {
         let mut set = self.turned(&set_of(key), self.order[place]);
         self.extend(&mut set);
         key_of(&set)
     }
 
     /// Does a key name a set of rows that are there?
-    /// It is not 0, names no missing row and no table from n on.
-    pub fn names(&self, key: u64) -> bool {
+    /// It is not 0, names no missing row and no table from n on, and has no spare bit set.
+    pub fn names(&self, key: Key) -> bool {
         let set = set_of(key);
-        key != 0 && (0..8).all(|table| set[table] <= if table < self.tables() { self.catalogue.rows[table] } else { 0 })
+        key != Key::default() && !key.spare() && (0..8).all(|table| set[table] <= if table < self.tables() { self.catalogue.rows[table] } else { 0 })
     }
 
     /// Writes the padded row of a set to the first m of the lent words.
@@ -219,10 +259,11 @@ impl Asked {
     }
 }
 
-/// The lent store.
-/// A record is a key with its left and right link.
+/// The lent store: four slices.
+/// A record is a key, whose words lie in two of them, with its left and right link.
 pub struct Store<'a> {
-    pub keys: &'a mut [u64],
+    pub low: &'a mut [u64],
+    pub high: &'a mut [u64],
     pub left: &'a mut [u16],
     pub right: &'a mut [u16],
 }
@@ -231,7 +272,13 @@ impl Store<'_> {
     /// How many records the store has.
     /// The shortest slice counts, and never more than 65,535.
     pub fn records(&self) -> usize {
-        self.keys.len().min(self.left.len()).min(self.right.len()).min(RECORDS)
+        self.low.len().min(self.high.len()).min(self.left.len()).min(self.right.len()).min(RECORDS)
+    }
+
+    /// The key of a record.
+    /// Any words may stand there.
+    pub fn key(&self, record: usize) -> Key {
+        Key::of(self.low[record], self.high[record])
     }
 
     /// The link that a record has for a bit.
@@ -246,8 +293,9 @@ impl Store<'_> {
 
     /// Fills a record that was free.
     /// Both its links are 0.
-    pub fn fill(&mut self, record: usize, key: u64) {
-        self.keys[record] = key;
+    pub fn fill(&mut self, record: usize, key: Key) {
+        self.low[record] = key.low;
+        self.high[record] = key.high;
         self.left[record] = 0;
         self.right[record] = 0;
     }
@@ -275,7 +323,7 @@ pub struct Counts {
 /// A set comes with its key.
 #[derive(Clone, Copy, Debug, PartialEq, Eq)]
 pub enum Answer {
-    Set(u64),
+    Set(Key),
     Finished,
     Working,
 }
@@ -310,21 +358,21 @@ pub enum Ending {
 }
 
 /// Searches the first `found` records for a key, with the number of looks.
-/// Look 8n + 1 must find the sought key: no bit is then taken.
-pub fn search(store: &Store, found: u64, tables: usize, key: u64) -> Result<(Ending, u64), Stop> {
+/// At depth d it takes bit d mod 12 of the row of table d / 12; look 12n + 1 must find the sought key: no bit is then taken.
+pub fn search(store: &Store, found: u64, tables: usize, key: Key) -> Result<(Ending, u64), Stop> {
     let mut record = 0;
     let mut depth = 0;
     loop {
-        if store.keys[record] == key {
-            return Ok((Ending::There, depth + 1));
+        if store.key(record) == key {
+            return Ok((Ending::There, depth as u64 + 1));
         }
-        if depth == 8 * tables as u64 {
+        if depth == ROW_BITS * tables {
             return Err(Stop::TooDeep);
         }
-        let bit = key >> depth & 1;
+        let bit = u64::from(key.row(depth / ROW_BITS) >> (depth % ROW_BITS) & 1);
         let link = store.link(record, bit);
         if link == 0 {
-            return Ok((Ending::Empty { record, bit }, depth + 1));
+            return Ok((Ending::Empty { record, bit }, depth as u64 + 1));
         }
         if u64::from(link) > found {
             return Err(Stop::BadLink);
@@ -373,7 +421,7 @@ pub fn misfit(record: &Record, records: usize, total: u64) -> Option<usize> {
 
 /// A search for the key of a set; if it is absent, it becomes the next record.
 /// It gives the looks.
-fn placed(tables: &Tables, store: &mut Store, record: &mut Record, sought: u64) -> Result<u64, Stop> {
+fn placed(tables: &Tables, store: &mut Store, record: &mut Record, sought: Key) -> Result<u64, Stop> {
     let (ending, looks) = search(store, record.found, tables.tables(), sought)?;
     if let Ending::Empty { record: last, bit } = ending {
         let place = record.found as usize;
@@ -391,7 +439,7 @@ fn placed(tables: &Tables, store: &mut Store, record: &mut Record, sought: u64) 
 /// A trial: the row at place next row on the set in record taken - 1, extended and searched for.
 /// A set that is not asked for is not searched for: no look is made. Only a trial that succeeds leaves a mark.
 fn trial(asked: Asked, tables: &Tables, store: &mut Store, record: &mut Record, counts: &mut Counts) -> Result<(), Stop> {
-    let key = store.keys[record.taken as usize - 1];
+    let key = store.key(record.taken as usize - 1);
     if !tables.names(key) {
         return Err(Stop::KeyTriedOn);
     }
@@ -442,7 +490,7 @@ pub fn next_for(
             if record.taken == record.found {
                 return (Outcome::Answered(Answer::Finished), counts);
             }
-            let key = store.keys[record.taken as usize];
+            let key = store.key(record.taken as usize);
             if !tables.names(key) {
                 return (Outcome::Stopped(Stop::KeyHandedOut), counts);
             }

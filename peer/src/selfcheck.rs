@@ -3,59 +3,66 @@ use crate::brute::Relations;
 use crate::make::{self, Tables};
 use crate::random::Random;
 use crate::refusal::Refusal;
-use crate::rule::{self, set_of, Answer, Asked, Counts, Outcome, Record, Set, Stop, Store};
+use crate::rule::{self, set_of, Answer, Asked, Counts, Key, Outcome, Record, Set, Stop, Store};
 use crate::tally::Tally;
 
 /// A store of its own, for the peer's drains.
 /// It starts as zeros.
 struct OwnStore {
-    keys: Vec<u64>,
+    low: Vec<u64>,
+    high: Vec<u64>,
     left: Vec<u16>,
     right: Vec<u16>,
 }
 
 impl OwnStore {
     /// A store with so many records.
-    /// All three slices have one length.
+    /// All four slices have one length.
     fn of(records: usize) -> OwnStore {
-        OwnStore { keys: vec![0; records], left: vec![0; records], right: vec![0; records] }
+        OwnStore { low: vec![0; records], high: vec![0; records], left: vec![0; records], right: vec![0; records] }
     }
 
     /// The store as it is lent.
     /// The links are lent for writing too.
     fn lend(&mut self) -> Store<'_> {
-        Store { keys: &mut self.keys, left: &mut self.left, right: &mut self.right }
+        Store { low: &mut self.low, high: &mut self.high, left: &mut self.left, right: &mut self.right }
+    }
+
+    /// The keys of the first records.
+    /// There are as many.
+    fn keys(&self, records: u64) -> Vec<Key> {
+        self.low.iter().zip(&self.high).take(records as usize).map(|(&low, &high)| Key::of(low, high)).collect()
     }
 }
 
 /// The set that the trial of a row on a set comes to, and its row tests, by the stream of every set in a store of its own.
 /// The row is named by its place in row order. A set that is not new is the one that was tried on.
-fn tried(tables: &Tables, key: u64, place: u64) -> Result<(Set, u64), String> {
+fn tried(tables: &Tables, key: Key, place: u64) -> Result<(Set, u64), String> {
     let mut store = OwnStore::of(2);
-    store.keys[0] = key;
+    (store.low[0], store.high[0]) = (key.low, key.high);
     let mut record = Record { found: 1, taken: 1, next_row: place };
     let (outcome, counts) = rule::next(&tables.catalogue, &tables.cells, &mut store.lend(), &mut record, 1, &mut [0; 63]);
-    hold!(counts.trials == 1, "a trial on {key:x} gives {outcome:?}");
-    Ok((set_of(store.keys[record.found as usize - 1]), counts.row_tests))
+    hold!(counts.trials == 1, "a trial on {key:x?} gives {outcome:?}");
+    Ok((set_of(store.lend().key(record.found as usize - 1)), counts.row_tests))
 }
 
 /// Tests the looks of a call with budget 1: at most as many as bits and records allow, and none exactly when no trial was made or its set is not asked for.
 /// `before` is the record before the call, and the key that of the set tried on.
-fn bounded_looks(tables: &Tables, asked: Asked, before: Record, key: u64, counts: Counts) -> Result<(), String> {
+fn bounded_looks(tables: &Tables, asked: Asked, before: Record, key: Key, counts: Counts) -> Result<(), String> {
     if counts.trials == 0 {
         hold!(counts.looks == 0, "{counts:?} without a trial");
         return Ok(());
     }
     let (set, row_tests) = tried(tables, key, before.next_row)?;
     hold!(counts.row_tests == row_tests, "{counts:?}, by the stream of every set {row_tests} row tests");
-    hold!(counts.looks <= (8 * tables.catalogue.n + 1).min(before.found), "{counts:?} looks");
+    hold!(counts.looks <= (12 * tables.catalogue.n + 1).min(before.found), "{counts:?} looks");
     hold!((counts.looks > 0) == asked.wants(&set), "{counts:?} looks for {set:?} where {asked:?}");
     Ok(())
 }
 
 /// Drains a stream one trial at a time and tests every bound on the way.
 /// The maximal sets asked for come from the definition; the store has exactly one record for each of them.
-fn bounded_drain(tables: &Tables, relations: &Relations, asked: Asked, maximal: &[u64]) -> Result<(), String> {
+fn bounded_drain(tables: &Tables, relations: &Relations, asked: Asked, maximal: &[Key]) -> Result<(), String> {
     let total: u64 = tables.catalogue.rows.iter().map(|&rows| u64::from(rows)).sum();
     let n = tables.catalogue.n;
     let mut store = OwnStore::of(maximal.len());
@@ -67,14 +74,14 @@ fn bounded_drain(tables: &Tables, relations: &Relations, asked: Asked, maximal: 
     let mut trials = if total == 0 { 0 } else { total };
     loop {
         let before = record;
-        let key = store.keys.get(record.taken.saturating_sub(1) as usize).copied().unwrap_or(0);
+        let key = store.keys(record.taken).last().copied().unwrap_or_default();
         let (outcome, counts) = rule::next_for(asked, &tables.catalogue, &tables.cells, &mut store.lend(), &mut record, 1, &mut padded);
         trials += counts.trials;
         hold!(counts.trials <= 1, "more trials than the budget");
         hold!(record.found - before.found <= counts.trials, "a trial found more than one set");
         hold!(counts.row_tests <= counts.trials * n * total && counts.row_tests >= counts.trials * total, "{counts:?} row tests");
         bounded_looks(tables, asked, before, key, counts)?;
-        let mut used = store.keys[..record.found as usize].to_vec();
+        let mut used = store.keys(record.found);
         used.sort_unstable();
         used.dedup();
         hold!(used.len() as u64 == record.found, "a set stands in the store twice");
@@ -82,7 +89,7 @@ fn bounded_drain(tables: &Tables, relations: &Relations, asked: Asked, maximal: 
         match outcome {
             Outcome::Answered(Answer::Set(key)) => {
                 hold!(trials == total, "{trials} trials before a set");
-                hold!(padded == relations.embed(key), "the padded row of {key:x} is {padded:?}");
+                hold!(padded == relations.embed(key), "the padded row of {key:x?} is {padded:?}");
                 trials = 0;
                 handed.push(key);
             }
@@ -103,7 +110,7 @@ fn bounded_drain(tables: &Tables, relations: &Relations, asked: Asked, maximal: 
 
 /// A store with a record too few ends in 12, and a longer one goes on to the same sets.
 /// The counts of the two parts sum up to those of one drain.
-fn full_drain(random: &mut Random, tables: &Tables, asked: Asked, maximal: &[u64]) -> Result<(), String> {
+fn full_drain(random: &mut Random, tables: &Tables, asked: Asked, maximal: &[Key]) -> Result<(), String> {
     if maximal.is_empty() {
         return Ok(());
     }
@@ -131,7 +138,8 @@ fn full_drain(random: &mut Random, tables: &Tables, asked: Asked, maximal: &[u64
                 Outcome::Answered(_) => {}
                 Outcome::Stopped(Stop::Full) => {
                     full = true;
-                    store.keys.push(7);
+                    store.low.push(7);
+                    store.high.push(7);
                     store.left.push(7);
                     store.right.push(7);
                 }
@@ -147,8 +155,8 @@ fn full_drain(random: &mut Random, tables: &Tables, asked: Asked, maximal: &[u64
 
 /// Compares one stream with the definition's sets, with a record for each of them and with one too few.
 /// It gives their number.
-fn one_stream(random: &mut Random, tables: &Tables, relations: &Relations, asked: Asked, maximal: &[u64]) -> Result<usize, String> {
-    let sets: Vec<u64> = maximal.iter().copied().filter(|&key| asked.wants(&set_of(key))).collect();
+fn one_stream(random: &mut Random, tables: &Tables, relations: &Relations, asked: Asked, maximal: &[Key]) -> Result<usize, String> {
+    let sets: Vec<Key> = maximal.iter().copied().filter(|&key| asked.wants(&set_of(key))).collect();
     bounded_drain(tables, relations, asked, &sets)?;
     full_drain(random, tables, asked, &sets)?;
     Ok(sets.len())
@@ -156,7 +164,7 @@ fn one_stream(random: &mut Random, tables: &Tables, relations: &Relations, asked
 
 /// Compares the stream of each row with the sets that hold it, and that of every set with all of them.
 /// It gives the number of sets that the rows' streams handed out. A row behind the last, a row 0 and a table from n on are refused with 19.
-fn all_streams(random: &mut Random, tables: &Tables, relations: &Relations, maximal: &[u64]) -> Result<usize, String> {
+fn all_streams(random: &mut Random, tables: &Tables, relations: &Relations, maximal: &[Key]) -> Result<usize, String> {
     one_stream(random, tables, relations, Asked::EverySet, maximal)?;
     let (mut sets, n) = (0, tables.catalogue.n);
     for table in 0..n {
@@ -172,12 +180,27 @@ fn all_streams(random: &mut Random, tables: &Tables, relations: &Relations, maxi
     Ok(sets)
 }
 
-/// Compares the streams with the definition on so many small table sets.
+/// Compares the stream of every set, and that of a row of 256, with the definition on tables of more than 255 rows.
+/// Row numbers above 255 stand in the first word, then in the second.
+fn long_streams(random: &mut Random, (first, second): (u16, u16)) -> Result<(), String> {
+    let tables = make::long_pair(first, second);
+    let relations = Relations::of(&tables);
+    let maximal = relations.maximal();
+    one_stream(random, &tables, &relations, Asked::EverySet, &maximal)?;
+    let held = one_stream(random, &tables, &relations, Asked::Holding { table: if first > second { 4 } else { 5 }, row: 256 }, &maximal)?;
+    hold!(held == 1 && maximal.len() == usize::from(first.max(second)), "{held} and {} sets of long tables", maximal.len());
+    Ok(())
+}
+
+/// Compares the streams with the definition on so many small table sets, and on two with long tables.
 /// Each counts as one comparison.
 pub fn run(cases: u64, seed: u64) -> bool {
     let mut random = Random::new(seed);
     let mut tally = Tally::default();
     let (mut all, mut most, mut held) = (0, 0, 0);
+    for counts in [(256, 2), (2, 257)] {
+        tally.compare(long_streams(&mut random, counts));
+    }
     for case in 0..cases {
         let tables = make::stream_tables(&mut random, 1000);
         let relations = Relations::of(&tables);

@@ -1,11 +1,12 @@
 //! Random calls of open, next (of every set, and of those that hold one row) and covers on both sides.
-use crate::lending::{Lending, Pair, MISFITS, NO_SUCH_ROW};
+use crate::lending::{Lending, Pair, KEYS, MISFITS, NO_SUCH_ROW};
 use crate::lent::Lent;
 use crate::library;
+use crate::longkeys;
 use crate::make::{self, Tables};
 use crate::random::Random;
 use crate::refusal::Refusal;
-use crate::rule::Asked;
+use crate::rule::{Asked, Key, ROW_BITS};
 use crate::stored;
 use crate::tally::Tally;
 use crate::words::{self, CATALOGUE, HOLDING, RECORD, RESULT};
@@ -24,9 +25,16 @@ const UNSEARCHED: [&str; 4] = [
 ];
 const COVERS: [&str; 3] = ["0", "1", "0 unequal length"];
 
+/// The most rows with which a call may be told to make N trials.
+/// Each makes N row tests or more.
+const FEW_ROWS: u64 = 600;
+
 /// A budget for a call: none, a few, enough, or as many as can be said.
-/// Total is N.
+/// Total is N; where there are many rows, mostly a few.
 fn budget(random: &mut Random, total: u64) -> u64 {
+    if total > FEW_ROWS || total > 255 && random.percent(97) {
+        return random.below(4);
+    }
     match random.below(8) {
         0 => 0,
         1 => 1,
@@ -40,6 +48,9 @@ fn budget(random: &mut Random, total: u64) -> u64 {
 /// Tables for a stream: small ones that join, some without rows, some as images have them.
 /// Now and then a cell is 2^63 or more, or rows repeat: stream calls take any cells.
 fn some_tables(random: &mut Random) -> Tables {
+    if random.percent(4) {
+        return make::long_tables(random);
+    }
     let most = random.pick(&[100, 400, 400, 3000]);
     let mut tables = make::stream_tables(random, most);
     match random.below(40) {
@@ -75,18 +86,19 @@ fn some_row(random: &mut Random, words: &[u64]) -> (u64, u64) {
     }
 }
 
-/// A key that may be damaged: 0, anything, rows that are there, one row too high, or a table from n on.
+/// A key that may be damaged: 0, anything, rows that are there, one row too high, a table from n on, a spare bit, or words the other way round.
 /// The catalogue's words tell which rows are there.
-fn some_key(random: &mut Random, words: &[u64], key: u64) -> u64 {
+fn some_key(random: &mut Random, words: &[u64], key: Key) -> Key {
     let n = words[1].clamp(1, 8) as usize;
     let table = random.range(0, n - 1);
-    match random.below(6) {
-        0 => 0,
-        1 => random.word() >> random.below(64),
-        2 | 3 => (0..n).fold(0, |key, table| key | random.below(words[10 + table].min(255) + 1) << (8 * table)),
-        4 => key & !(0xff << (8 * table)) | words[10 + table].saturating_add(1).min(255) << (8 * table),
-        _ if n < 8 => key | 1 << (8 * n + random.range(0, 63 - 8 * n)),
-        _ => key ^ 1 << random.below(64),
+    match random.below(8) {
+        0 => Key::default(),
+        1 => Key::of(random.word() >> random.below(64), random.word() * random.below(2)),
+        2 | 3 => (0..n).fold(Key::default(), |key, table| key.with_row(table, random.below(words[10 + table].min(4095) + 1) as u16)),
+        4 => key.with_row(table, words[10 + table].saturating_add(1).min(4095) as u16),
+        5 if n < 8 => key.with_row(random.range(n, 7), 1 << random.below(12)),
+        5 => Key::of(key.high, key.low),
+        _ => make::spare_bit(random, key),
     }
 }
 
@@ -101,11 +113,11 @@ fn damage_store(random: &mut Random, lending: &mut Lending) {
     let place = random.range(0, used - 1);
     match random.below(4) {
         0 | 1 => {
-            let key = some_key(random, lending.catalogue.slice(), lending.keys.slice()[place]);
+            let key = some_key(random, lending.catalogue.slice(), lending.key(place));
             let taken = lending.record.slice().get(1).copied().unwrap_or(0);
             let due = (taken as usize).min(used - 1);
             let aimed = random.pick(&[place, due, due, (taken as usize).clamp(1, used) - 1]);
-            lending.keys.slice_mut()[aimed] = key;
+            lending.set_key(aimed, key);
         }
         2 => {
             let near = random.pick(&[0, 1, found, found + 1, 65_535]) as u16;
@@ -127,17 +139,22 @@ fn damage_store(random: &mut Random, lending: &mut Lending) {
 /// The last record alone has another key, which some trial may seek.
 fn chain_store(random: &mut Random, lending: &mut Lending) {
     let (words, total) = (lending.catalogue.slice(), lending.total().min(5000));
-    let length = (8 * words[1].min(8) as usize + random.range(0, 2)).min(lending.records());
+    let deepest = ROW_BITS * words[1].min(8) as usize;
+    let length = if random.percent(60) { deepest + random.range(0, 2) } else { random.range(1, deepest.max(1)) }.min(lending.records());
     let Some(record) = lending.stream_record() else {
         return;
     };
     if length < 2 || record.found < 2 || record.found as usize > lending.records() {
         return;
     }
-    let other = lending.keys.slice()[random.range(1, record.found as usize - 1)];
+    let (first, mut other) = (lending.key(0), lending.key(random.range(1, record.found as usize - 1)));
+    if random.percent(10) {
+        let spare = make::spare_bit(random, other);
+        other = random.pick(&[Key::of(other.low, first.high), Key::of(first.low, other.high), spare]);
+    }
     for place in 0..length {
         let link = if place + 1 < length { place as u16 + 2 } else { 0 };
-        lending.keys.slice_mut()[place] = if place + 1 < length { lending.keys.slice()[0] } else { other };
+        lending.set_key(place, if place + 1 < length { first } else { other });
         lending.left.slice_mut()[place] = link;
         lending.right.slice_mut()[place] = link;
     }
@@ -229,8 +246,9 @@ fn damage(random: &mut Random, lending: &mut Lending) {
         }
         _ => {
             let records = random.range(0, lending.records());
-            let keys = lending.keys.slice()[..records].to_vec();
-            lending.keys = Lent::holding(&keys, random);
+            let words = if random.percent(50) { &mut lending.low } else { &mut lending.high };
+            let kept = words.slice()[..records].to_vec();
+            *words = Lent::holding(&kept, random);
         }
     }
 }
@@ -240,13 +258,14 @@ fn damage(random: &mut Random, lending: &mut Lending) {
 fn lengthen(random: &mut Random, lending: &mut Lending) {
     let records = lending.records();
     let longer = records + random.pick(&[1, 1, 2, 30]);
-    let mut keys = Lent::pattern(longer, random);
-    let mut left = Lent::pattern(longer, random);
-    let mut right = Lent::pattern(longer, random);
-    keys.slice_mut()[..records].copy_from_slice(&lending.keys.slice()[..records]);
-    left.slice_mut()[..records].copy_from_slice(&lending.left.slice()[..records]);
-    right.slice_mut()[..records].copy_from_slice(&lending.right.slice()[..records]);
-    (lending.keys, lending.left, lending.right) = (keys, left, right);
+    for words in [&mut lending.low, &mut lending.high] {
+        let kept = std::mem::replace(words, Lent::pattern(longer, random));
+        words.slice_mut()[..records].copy_from_slice(&kept.slice()[..records]);
+    }
+    for links in [&mut lending.left, &mut lending.right] {
+        let kept = std::mem::replace(links, Lent::pattern(longer, random));
+        links.slice_mut()[..records].copy_from_slice(&kept.slice()[..records]);
+    }
 }
 
 /// A whole stream from open to finished, or until a full store is not made longer.
@@ -351,10 +370,12 @@ fn longest_store(random: &mut Random, tally: &mut Tally, asked: Asked) -> Result
     let edges = [(65_534, 65_535, 32), (65_534, 65_534, 12), (65_535, 65_535, 12), (65_535, 65_536, 12), (65_535, 70_000, 12), (65_536, 70_000, 13)];
     for (found, lent, answer) in edges {
         let mut lending = Lending::of(random, &tables, asked, 0);
-        lending.keys = Lent::pattern(lent, random);
+        lending.low = Lent::pattern(lent, random);
+        lending.high = Lent::pattern(lent + 2, random);
         lending.left = Lent::pattern(lent, random);
         lending.right = Lent::pattern(lent + 1, random);
-        lending.keys.slice_mut()[..2].copy_from_slice(&[1, 1]);
+        lending.set_key(0, Key::of(1, 0));
+        lending.set_key(1, Key::of(1, 0));
         lending.left.slice_mut()[0] = 0;
         let words = lending.record_words();
         lending.record.slice_mut()[..words].copy_from_slice(&[found, 1, 1, 0, 2][..words]);
@@ -367,9 +388,38 @@ fn longest_store(random: &mut Random, tally: &mut Tally, asked: Asked) -> Result
     Ok(())
 }
 
-/// Sets written down by hand: each is its key and its padded row.
+/// Which of the four slices of a store is the shortest does not matter: it counts. Two rows of one table are two sets.
+/// Without a record open is refused; with one the second set finds no room; with two there are both.
+fn shortest_slice(random: &mut Random, tally: &mut Tally, asked: Asked, slice: usize) -> Result<(), String> {
+    for (shortest, answers) in [(0, &[12][..]), (1, &[32, 12]), (2, &[32, 32, 64])] {
+        let counts = if asked == Asked::EverySet { &[2][..] } else { &[1, 2] };
+        let mut lending = Lending::of(random, &make::star(counts), asked, 3);
+        match slice {
+            0 => lending.low = Lent::pattern(shortest, random),
+            1 => lending.high = Lent::pattern(shortest, random),
+            2 => lending.left = Lent::pattern(shortest, random),
+            _ => lending.right = Lent::pattern(shortest, random),
+        }
+        let mut pair = Pair::of(lending);
+        let opened = pair.open(tally)? % 32;
+        for &answer in answers {
+            let got = if shortest == 0 { opened } else { pair.next(u64::MAX, tally)? };
+            hold!(got == answer, "a store whose slice {slice} has {shortest} elements gives {got} instead of {answer}");
+        }
+    }
+    Ok(())
+}
+
+/// Sets written down by hand: each is its row numbers, lowest table first, and its padded row.
 /// They stand in the order of handing out.
-type Sets = &'static [(u64, &'static [u64])];
+type Sets = &'static [(&'static [u16], &'static [u64])];
+
+/// The words of a key by its row numbers, lowest table first, as the request writes them: five in the first word, the rest in the second.
+fn key_words(rows: &[u16]) -> [u64; 2] {
+    let word = |rows: &[u16]| rows.iter().rev().fold(0, |word, &row| word * 4096 + u64::from(row));
+    let (first, second) = rows.split_at(rows.len().min(5));
+    [word(first), word(second)]
+}
 
 /// Drains one stream on both sides and compares it with sets written down by hand.
 /// Behind the last of them the stream is finished.
@@ -378,10 +428,11 @@ fn written_down(random: &mut Random, tally: &mut Tally, name: &str, image: &str,
     let tables = Tables { catalogue, cells };
     let mut pair = Pair::of(Lending::of(random, &tables, asked, 20));
     pair.open(tally)?;
-    for (key, padded) in sets {
+    for (rows, padded) in sets {
         hold!(pair.next(u64::MAX, tally)? == 32, "edge {name}: no set");
         let lent = pair.lent();
-        hold!(lent.result.slice()[0] == *key, "edge {name}: key {} instead of {key}", lent.result.slice()[0]);
+        let key = key_words(rows);
+        hold!(lent.result.slice()[..2] == key, "edge {name}: key {:x?} instead of {key:x?}", &lent.result.slice()[..2]);
         hold!(lent.padded.slice().starts_with(padded), "edge {name}: another padded row");
     }
     hold!(pair.next(u64::MAX, tally)? == 64, "edge {name}: not finished");
@@ -394,14 +445,14 @@ fn edges(random: &mut Random, tally: &mut Tally) {
     let two = "01 01 02 01 01";
     let cases: [(&str, String, Sets); 9] = [
         ("P no rows", "01 01 01 01 00".to_string(), &[]),
-        ("P one null row", "01 01 01 01 01 00".to_string(), &[(1, &[0])]),
-        ("P values 10 and 4,294,967,306", format!("{two} 0B 01 01 8B 80 80 80 10"), &[(1, &[11]), (0x100, &[4_294_967_307])]),
-        ("values 10 and 10", format!("{two} 0B 01 01 0B"), &[(0x101, &[11])]),
-        ("P null and null", format!("{two} 00 01 01 00"), &[(1, &[0]), (0x100, &[0])]),
-        ("nothing shared", "01 02 02 01 01 02 02 01 02".to_string(), &[(1, &[2, 0]), (0x100, &[0, 2])]),
-        ("two sets with one padded row", "01 02 02 03 01 02 00 03 01 02 00".to_string(), &[(1, &[2, 0]), (0x100, &[2, 0])]),
-        ("connected later", "01 03 03 03 01 02 02 04 01 02 06 01 02 02".to_string(), &[(0x1_0101, &[2, 2, 2])]),
-        ("an early null does not block", "01 03 03 03 01 02 00 05 01 02 03 06 01 05 03".to_string(), &[(0x101, &[2, 0, 3]), (0x1_0100, &[2, 5, 3])]),
+        ("P one null row", "01 01 01 01 01 00".to_string(), &[(&[1], &[0])]),
+        ("P values 10 and 4,294,967,306", format!("{two} 0B 01 01 8B 80 80 80 10"), &[(&[1], &[11]), (&[0, 1], &[4_294_967_307])]),
+        ("values 10 and 10", format!("{two} 0B 01 01 0B"), &[(&[1, 1], &[11])]),
+        ("P null and null", format!("{two} 00 01 01 00"), &[(&[1], &[0]), (&[0, 1], &[0])]),
+        ("nothing shared", "01 02 02 01 01 02 02 01 02".to_string(), &[(&[1], &[2, 0]), (&[0, 1], &[0, 2])]),
+        ("two sets with one padded row", "01 02 02 03 01 02 00 03 01 02 00".to_string(), &[(&[1], &[2, 0]), (&[0, 1], &[2, 0])]),
+        ("connected later", "01 03 03 03 01 02 02 04 01 02 06 01 02 02".to_string(), &[(&[1, 1, 1], &[2, 2, 2])]),
+        ("an early null does not block", "01 03 03 03 01 02 00 05 01 02 03 06 01 05 03".to_string(), &[(&[1, 1], &[2, 0, 3]), (&[0, 1, 1], &[2, 5, 3])]),
     ];
     for (name, image, sets) in cases {
         let result = written_down(random, tally, name, &image, Asked::EverySet, sets);
@@ -411,6 +462,12 @@ fn edges(random: &mut Random, tally: &mut Tally) {
         let result = longest_store(random, tally, asked);
         tally.compare(result);
     }
+    for asked in [Asked::EverySet, Asked::Holding { table: 0, row: 1 }] {
+        for slice in 0..4 {
+            let result = shortest_slice(random, tally, asked, slice);
+            tally.compare(result);
+        }
+    }
 }
 
 /// The edges of the stream of one row, on the rules' sample and on three tables of which two sets share a row.
@@ -419,15 +476,15 @@ fn row_edges(random: &mut Random, tally: &mut Tally) {
     let sample = "01 03 03 03 02 02 0B 03 15 06 02 0B 08 8B 80 80 80 10 0A 05 02 02 08 03 00";
     let shared = "01 03 03 03 01 02 00 05 01 02 03 06 01 05 03";
     let cases: [(&str, &str, u64, u64, Sets); 9] = [
-        ("sample, first row", sample, 0, 1, &[(0x1_0101, &[2, 11, 8])]),
-        ("sample, row 2 of table 0", sample, 0, 2, &[(0x2_0002, &[3, 21, 0])]),
-        ("sample, row 1 of table 1", sample, 1, 1, &[(0x1_0101, &[2, 11, 8])]),
-        ("sample, row 2 of table 1", sample, 1, 2, &[(0x200, &[0, 4_294_967_307, 10])]),
-        ("sample, last row", sample, 2, 2, &[(0x2_0002, &[3, 21, 0])]),
-        ("shared, row of one set", shared, 0, 1, &[(0x101, &[2, 0, 3])]),
-        ("shared, row of two sets", shared, 1, 1, &[(0x101, &[2, 0, 3]), (0x1_0100, &[2, 5, 3])]),
-        ("shared, row of the other set", shared, 2, 1, &[(0x1_0100, &[2, 5, 3])]),
-        ("a null row", "01 01 02 01 01 00 01 01 00", 1, 1, &[(0x100, &[0])]),
+        ("sample, first row", sample, 0, 1, &[(&[1, 1, 1], &[2, 11, 8])]),
+        ("sample, row 2 of table 0", sample, 0, 2, &[(&[2, 0, 2], &[3, 21, 0])]),
+        ("sample, row 1 of table 1", sample, 1, 1, &[(&[1, 1, 1], &[2, 11, 8])]),
+        ("sample, row 2 of table 1", sample, 1, 2, &[(&[0, 2], &[0, 4_294_967_307, 10])]),
+        ("sample, last row", sample, 2, 2, &[(&[2, 0, 2], &[3, 21, 0])]),
+        ("shared, row of one set", shared, 0, 1, &[(&[1, 1], &[2, 0, 3])]),
+        ("shared, row of two sets", shared, 1, 1, &[(&[1, 1], &[2, 0, 3]), (&[0, 1, 1], &[2, 5, 3])]),
+        ("shared, row of the other set", shared, 2, 1, &[(&[0, 1, 1], &[2, 5, 3])]),
+        ("a null row", "01 01 02 01 01 00 01 01 00", 1, 1, &[(&[0, 1], &[0])]),
     ];
     for (name, image, table, row, sets) in cases {
         let result = written_down(random, tally, name, image, Asked::Holding { table, row }, sets);
@@ -445,6 +502,7 @@ pub fn compare(cases: u64, seed: u64, least: u64) -> bool {
     }
     edges(&mut random, &mut tally);
     row_edges(&mut random, &mut tally);
+    longkeys::edges(&mut random, &mut tally);
     for case in 0..cases {
         let result = compare_one(&mut random, &mut tally).map_err(|words| format!("case {case}: {words}"));
         tally.compare(result);
@@ -456,6 +514,8 @@ pub fn compare(cases: u64, seed: u64, least: u64) -> bool {
     tally.table("open_holding", &OPEN_HOLDING, least);
     tally.table("next_holding", &next, least);
     tally.table("covers", &COVERS, least);
+    tally.table("next keys", &KEYS, least);
+    tally.table("next_holding keys", &KEYS, least);
     let at_work = ["11", "12", "13", "14"];
     let later: [(&str, &[&str]); 4] = [("open", &["12"]), ("next", &at_work), ("open_holding", &["12", "19"]), ("next_holding", &at_work)];
     for (call, later) in later {

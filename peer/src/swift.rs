@@ -2,7 +2,7 @@
 //! The answers and the counts are those of `rule`; the benchmark compares them before it times anything.
 use crate::image::{check_shape, Catalogue};
 use crate::refusal::Refusal;
-use crate::rule::{misfit, search, set_of, Answer, Counts, Ending, Outcome, Record, Stop, Store};
+use crate::rule::{misfit, set_of, Answer, Counts, Ending, Key, Outcome, Record, Stop, Store, ROW_BITS};
 
 /// What is known once in a call: where tables begin and which tables touch, as the catalogue stores it, and what is worked out: how wide tables are, how
 /// many rows lie before each and up to its end, and which have a first column that does not fall. The row walk reads nothing else of the catalogue.
@@ -23,11 +23,18 @@ struct Plan<'a> {
 /// A set under way: its row numbers, its tables as a mask, those that touch one of them as another, and its merged row.
 /// An attribute on which members disagree, or one is null, has 0 there.
 struct Merged {
-    key: u64,
+    words: [u64; 2],
     present: u16,
     touched: u16,
     attributes: u64,
     codes: [u64; 64],
+}
+
+impl Merged {
+    /// The set's key.
+    fn key(&self) -> Key {
+        Key::of(self.words[0], self.words[1])
+    }
 }
 
 impl<'a> Plan<'a> {
@@ -112,7 +119,7 @@ impl<'a> Plan<'a> {
             set.codes[attribute] = if !seen || set.codes[attribute] == code { code } else { 0 };
             rest &= rest - 1;
         }
-        set.key |= (row as u64) << (8 * table);
+        set.words[table / 5] |= (row as u64) << (ROW_BITS * (table % 5));
         set.present |= 1 << table;
         set.touched |= self.touching[table];
         set.attributes |= self.schemes[table];
@@ -184,7 +191,7 @@ impl<'a> Plan<'a> {
 
     /// A set of one row.
     fn alone(&self, table: usize, row: usize) -> Merged {
-        let mut set = Merged { key: 0, present: 0, touched: 0, attributes: 0, codes: [0; 64] };
+        let mut set = Merged { words: [0; 2], present: 0, touched: 0, attributes: 0, codes: [0; 64] };
         self.add(&mut set, table, row);
         set
     }
@@ -223,13 +230,13 @@ impl<'a> Plan<'a> {
     }
 
     /// Does a key name a set of rows that are there?
-    fn names(&self, key: u64) -> bool {
+    fn names(&self, key: Key) -> bool {
         let rows = set_of(key);
-        key != 0 && (0..8).all(|table| usize::from(rows[table]) <= self.rows[table])
+        key != Key::default() && key.low >> 60 | key.high >> 36 == 0 && (0..8).all(|table| usize::from(rows[table]) <= self.rows[table])
     }
 
     /// Writes the padded row of a set, the highest table first, so that the lowest has the last word.
-    fn pad(&self, key: u64, padded: &mut [u64]) {
+    fn pad(&self, key: Key, padded: &mut [u64]) {
         padded[..self.m].fill(0);
         let rows = set_of(key);
         for table in (0..self.n).rev().filter(|&table| rows[table] != 0) {
@@ -253,7 +260,7 @@ pub fn open(catalogue: &Catalogue, cells: &[u64], store: &mut Store) -> Result<(
     }
     let mut set = plan.alone(table, 1);
     let row_tests = plan.extend(&mut set, 0);
-    store.fill(0, set.key);
+    store.fill(0, set.key());
     Ok((Record { found: 1, taken: 0, next_row: plan.total }, row_tests))
 }
 
@@ -278,7 +285,7 @@ pub fn next(catalogue: &Catalogue, cells: &[u64], store: &mut Store, record: &mu
     if record.taken == record.found {
         return (Outcome::Answered(Answer::Finished), counts);
     }
-    let key = store.keys[record.taken as usize];
+    let key = store.key(record.taken as usize);
     if !plan.names(key) {
         return (Outcome::Stopped(Stop::KeyHandedOut), counts);
     }
@@ -293,7 +300,7 @@ fn trials(plan: &Plan, store: &mut Store, record: &mut Record, budget: u64, coun
     if budget == 0 {
         return Some(Outcome::Answered(Answer::Working));
     }
-    let key = store.keys[record.taken as usize - 1];
+    let key = store.key(record.taken as usize - 1);
     if !plan.names(key) {
         return Some(Outcome::Stopped(Stop::KeyTriedOn));
     }
@@ -309,7 +316,7 @@ fn trials(plan: &Plan, store: &mut Store, record: &mut Record, budget: u64, coun
         }
         let mut set = plan.turned(&rows, table, row + 1);
         let row_tests = plan.extend(&mut set, row);
-        match file(plan, store, record, set.key) {
+        match file(plan, store, record, set.key()) {
             Err(stop) => return Some(Outcome::Stopped(stop)),
             Ok(looks) => counts.looks += looks,
         }
@@ -324,8 +331,33 @@ fn trials(plan: &Plan, store: &mut Store, record: &mut Record, budget: u64, coun
     None
 }
 
+/// Searches as `rule::search`, with the key as one number whose lowest bit is taken at each look and then dropped.
+fn search(store: &Store, found: u64, tables: usize, sought: Key) -> Result<(Ending, u64), Stop> {
+    let mut bits = u128::from(sought.high) << 60 | u128::from(sought.low);
+    let (last, mut record) = ((ROW_BITS * tables) as u64 + 1, 0);
+    for look in 1..=last {
+        if store.low[record] == sought.low && store.high[record] == sought.high {
+            return Ok((Ending::There, look));
+        }
+        if look == last {
+            break;
+        }
+        let bit = bits as u64 & 1;
+        bits >>= 1;
+        let link = if bit == 0 { store.left[record] } else { store.right[record] };
+        if link == 0 {
+            return Ok((Ending::Empty { record, bit }, look));
+        }
+        if u64::from(link) > found {
+            return Err(Stop::BadLink);
+        }
+        record = usize::from(link) - 1;
+    }
+    Err(Stop::TooDeep)
+}
+
 /// Searches for a key and files it where it is absent; the looks.
-fn file(plan: &Plan, store: &mut Store, record: &mut Record, sought: u64) -> Result<u64, Stop> {
+fn file(plan: &Plan, store: &mut Store, record: &mut Record, sought: Key) -> Result<u64, Stop> {
     let (ending, looks) = search(store, record.found, plan.n, sought)?;
     if let Ending::Empty { record: last, bit } = ending {
         let place = record.found as usize;

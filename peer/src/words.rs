@@ -1,6 +1,6 @@
 //! The peer's functions in the form of the C calls: over slices of words, with one number as the answer.
 use crate::image::{self, Catalogue};
-use crate::rule::{self, Answer, Asked, Counts, Outcome, Record, Store};
+use crate::rule::{self, Answer, Asked, Counts, Key, Outcome, Record, Store};
 
 /// The words of a catalogue, of what is said of tables made by hand, of a record, a record that names a row, and a result.
 /// Longer slices are lent too; the words behind stay.
@@ -8,7 +8,7 @@ pub const CATALOGUE: usize = 34;
 pub const GIVEN: usize = 18;
 pub const RECORD: usize = 3;
 pub const HOLDING: usize = 5;
-pub const RESULT: usize = 4;
+pub const RESULT: usize = 5;
 
 /// The answer when a word slice is too short.
 /// Nothing is then changed.
@@ -156,7 +156,7 @@ pub struct Call<'a> {
     pub result: &'a mut [u64],
 }
 
-/// Stream call: the answer, the moved record, and key, trials, row tests and looks in the result.
+/// Stream call: the answer, the moved record, and the key's two words, trials, row tests and looks in the result.
 /// The record has so many words, RECORD or HOLDING. The outcome beside the answer is for counting only; a short slice has none.
 pub fn next(needed: usize, catalogue: &[u64], cells: &[u64], store: &mut Store, call: Call) -> (u64, Option<Outcome>) {
     if catalogue.len() < CATALOGUE || call.record.len() < needed || call.result.len() < RESULT {
@@ -166,9 +166,9 @@ pub fn next(needed: usize, catalogue: &[u64], cells: &[u64], store: &mut Store, 
     let mut record = Record { found: call.record[0], taken: call.record[1], next_row: call.record[2] };
     let (outcome, counts) = rule::next_for(asked, &catalogue_of(catalogue), cells, store, &mut record, call.budget, call.padded);
     put_record(&record, call.record);
-    let key = if let Outcome::Answered(Answer::Set(key)) = outcome { key } else { 0 };
+    let key = if let Outcome::Answered(Answer::Set(key)) = outcome { key } else { Key::default() };
     let Counts { trials, row_tests, looks } = counts;
-    call.result[..RESULT].copy_from_slice(&[key, trials, row_tests, looks]);
+    call.result[..RESULT].copy_from_slice(&[key.low, key.high, trials, row_tests, looks]);
     (answer_of(&outcome), Some(outcome))
 }
 

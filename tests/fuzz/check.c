@@ -52,6 +52,15 @@ static bool ranged(struct reading *r, uint64_t low, uint64_t high, uint64_t refu
     return number(r, value) && (*value < low || *value > high ? refuse(r, refusal, start) : true);
 }
 
+/* Is a row all null? */
+static bool all_null(const uint64_t *row, int width)
+{
+    for (int cell = 0; cell < width; cell++)
+        if (row[cell] != 0)
+            return false;
+    return true;
+}
+
 /* Does a row rise above the one before? */
 static bool rises(const uint64_t *before, const uint64_t *row, int width)
 {
@@ -61,8 +70,8 @@ static bool rises(const uint64_t *before, const uint64_t *row, int width)
     return false;
 }
 
-/* Reads the rows of a table: each number first, then its order. */
-static bool rows(struct reading *r, int width, uint64_t count)
+/* Reads the rows of a table: each number first, then, in version 2, whether it is all null, then its order. */
+static bool rows(struct reading *r, uint64_t version, int width, uint64_t count)
 {
     static uint64_t cells[2][64];
     for (uint64_t row = 0; row < count; row++) {
@@ -70,38 +79,43 @@ static bool rows(struct reading *r, int width, uint64_t count)
         for (int cell = 0; cell < width; cell++)
             if (!number(r, &cells[row % 2][cell]))
                 return false;
+        if (version == 2 && all_null(cells[row % 2], width))
+            return refuse(r, 21, start);
         if (row > 0 && !rises(cells[(row + 1) % 2], cells[row % 2], width))
             return refuse(r, 7, start);
     }
     return true;
 }
 
-/* Reads a table: its scheme, its row count, its rows. */
-static bool table(struct reading *r, uint64_t m, uint64_t *used)
+/* Reads a table: its scheme, its row count, its rows. The highest row count of a table is kept. */
+static bool table(struct reading *r, uint64_t version, uint64_t m, uint64_t *used, uint64_t *longest)
 {
     uint64_t scheme, count;
     if (!ranged(r, 1, ((uint64_t)1 << m) - 1, 5, &scheme))
         return false;
     size_t start = r->at;
-    if (!ranged(r, 0, 255, 6, &count))
+    if (!ranged(r, 0, version == 1 ? 255 : 4095, 6, &count))
         return false;
+    *longest = count > *longest ? count : *longest;
     int width = __builtin_popcountll(scheme);
     *used += count * (uint64_t)width;
-    return *used > MOST_CELLS ? refuse(r, 8, start) : rows(r, width, count);
+    return *used > MOST_CELLS ? refuse(r, 8, start) : rows(r, version, width, count);
 }
 
 /* The answer to an image. */
 static uint64_t expected(const uint8_t *bytes, size_t length)
 {
     struct reading r = { bytes, length, 0, 0 };
-    uint64_t version, m, n, used = 0;
-    if (!ranged(&r, 1, 1, 3, &version) || !ranged(&r, 1, 63, 4, &m) || !ranged(&r, 1, 8, 4, &n))
+    uint64_t version, m, n, used = 0, longest = 0;
+    if (!ranged(&r, 1, 2, 3, &version) || !ranged(&r, 1, 63, 4, &m) || !ranged(&r, 1, 8, 4, &n))
         return r.answer;
     for (uint64_t t = 0; t < n; t++)
-        if (!table(&r, m, &used))
+        if (!table(&r, version, m, &used, &longest))
             return r.answer;
     if (r.at < length)
         refuse(&r, 9, r.at);
+    else if (version == 2 && longest <= 255)
+        refuse(&r, 20, 0);
     return r.answer;
 }
 

@@ -20,8 +20,9 @@ def number(x):
 
 
 def image(m, tables):
-    """The image of tables (attributes, rows of codes); rows are put in their order."""
-    out = number(1) + number(m) + number(len(tables))
+    """The image of tables (attributes, rows of codes); rows are put in their order. Above 255 rows the version is 2."""
+    version = 2 if any(len(rows) > 255 for _, rows in tables) else 1
+    out = number(version) + number(m) + number(len(tables))
     for attributes, rows in tables:
         out += number(sum(1 << a for a in attributes)) + number(len(rows))
         for row in sorted(rows):
@@ -44,6 +45,11 @@ def wide(nines):
     return image(63, [(list(range(63)), rows)])
 
 
+def ticks(*counts):
+    """Tables of one attribute, the tick, with so many rows each: ticks from 1 on."""
+    return image(1, [([0], [(code,) for code in range(2, count + 2)]) for count in counts])
+
+
 def bare(text):
     return bytes.fromhex(text)
 
@@ -59,12 +65,19 @@ CASES = {
     # document 01's sample, and both sides of its edges
     "sample": (bare("01 03 03 03 02 02 0B 03 15 06 02 0B 08 8B 80 80 80 10 0A 05 02 02 08 03 00"), SAMPLE),
     "empty": (b"", "refused 1 0\n"),
-    "version": (bare("02"), "refused 3 0\n"),
+    "version": (bare("03"), "refused 3 0\n"),
+    "version_2": (bare("02"), "refused 1 1\n"),
     "attributes": (bare("01 40"), "refused 4 1\n"),
     "too_many_tables": (bare("01 01 09"), "refused 4 2\n"),
     "scheme": (bare("01 01 01 02"), "refused 5 3\n"),
     "too_many_rows": (bare("01 01 01 01 80 02"), "refused 6 4\n"),
     "most_rows": (bare("01 01 01 01 FF 01"), "refused 1 6\n"),
+    "too_many_rows_2": (bare("02 01 01 01 80 20"), "refused 6 4\n"),
+    "most_rows_2": (bare("02 01 01 01 FF 1F"), "refused 1 6\n"),
+    "needless": (bare("02 01 01 01 00"), "refused 20 0\n"),
+    "surplus_2": (bare("02 01 01 01 00 00"), "refused 9 5\n"),
+    "null_row_2": (bare("02 01 01 01 01 00"), "refused 21 5\n"),
+    "null_row_below": (bare("02 01 01 01 02 05 00"), "refused 21 6\n"),
     "equal_rows": (bare("01 01 01 01 02 05 05"), "refused 7 6\n"),
     "surplus": (bare("01 01 01 01 00 00"), "refused 9 5\n"),
     "no_row": (bare("01 01 01 01 00"), "tables 1 1 0 0\nend 0 0 0 0\n"),
@@ -94,6 +107,11 @@ CASES = {
         ),
         None,
     ),
+    # tables of more than 255 rows, whose numbers stand in a key's first word and in its second
+    "long_first": (ticks(256), None),
+    "long_fifth": (ticks(0, 0, 1, 2, 257, 0), None),
+    "long_sixth": (ticks(2, 0, 0, 1, 0, 258), None),
+    "long_last": (ticks(0, 0, 0, 0, 0, 3, 0, 256), None),
     # a store that is just large enough, and one row apart too many
     "star": (star(), None),
     "full": (star(([7], [(2,)])), None),

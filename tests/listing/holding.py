@@ -62,7 +62,7 @@ def listed(row, counts, ours, all_lines):
         return good and last == ["refused", "12", "4096"] and len(set(sets)) == len(sets) == 4096
     count, trials, tests, looks = (int(word) for word in last[1:])
     good = good and last[0] == "end" and len(set(sets)) == len(sets) == count and trials == count * total
-    good = good and trials * total <= tests <= trials * n * total and count <= looks <= trials * (8 * n + 1)
+    good = good and trials * total <= tests <= trials * n * total and count <= looks <= trials * (12 * n + 1)
     if all_lines[-1].startswith("end "):
         return good and sorted(sets) == sorted(holding)
     return good and set(holding) <= set(sets)

@@ -9,10 +9,11 @@ use lib.Dec.{ltb}
 use borrow.Author.Tests.{ltb-false}
 use Rattle.laws.specs.Lists.{put}
 use Rattle.laws.proofs.TestLaws.{or-none}
+use Rattle.keys.specs.TwoWords.{lowOf, highOf, numberOf}
 use Rattle.tables.specs.declared.Catalogue.{Catalogue}
 use Rattle.disjunction.specs.Asked.{Asked}
 use Rattle.store.specs.Store.{storeIn}
-use Rattle.machine.specs.Machine.{Called, Opened, openFault, openingFor}
+use Rattle.machine.specs.Machine.{mostTests, Called, Opened, openFault, openingFor}
 use Rattle.stream.specs.declared.OpenAnswer.{OpenAnswer}
 use Rattle.stream.specs.declared.StepAnswer.{StepAnswer}
 use Rattle.stream.specs.Promises.{stateWith, saysOf, calledWith, openedWith}
@@ -30,13 +31,6 @@ put-three a b c (x ∷ []) h = absurd (omega arith)
 put-three a b c (x ∷ (y ∷ [])) h = absurd (omega arith)
 put-three a b c (x ∷ (y ∷ (z ∷ l))) h = refl
 
-pub put-four : (a b c d : ℕ) (l : List ℕ) → resultWords ≤ length l → set (set (set (set l 0 a) 1 b) 2 c) 3 d ≡ put (a ∷ (b ∷ (c ∷ (d ∷ [])))) l
-put-four a b c d [] h = absurd (omega arith)
-put-four a b c d (x ∷ []) h = absurd (omega arith)
-put-four a b c d (x ∷ (y ∷ [])) h = absurd (omega arith)
-put-four a b c d (x ∷ (y ∷ (z ∷ []))) h = absurd (omega arith)
-put-four a b c d (x ∷ (y ∷ (z ∷ (w ∷ l)))) h = refl
-
 -- A record that names a row is a record of three words, and two words more.
 pub put-two-more : (a b c d e : ℕ) (l : List ℕ) → holdingWords ≤ length l
     → set (set (put (a ∷ (b ∷ (c ∷ []))) l) 3 d) 4 e ≡ put (a ∷ (b ∷ (c ∷ (d ∷ (e ∷ []))))) l
@@ -47,18 +41,23 @@ put-two-more a b c d e (v ∷ (w ∷ (x ∷ []))) h = absurd (omega arith)
 put-two-more a b c d e (v ∷ (w ∷ (x ∷ (y ∷ [])))) h = absurd (omega arith)
 put-two-more a b c d e (v ∷ (w ∷ (x ∷ (y ∷ (z ∷ l))))) h = refl
 
+-- Five words, as many as a result has.
+pub put-five : (a b c d e : ℕ) (l : List ℕ) → resultWords ≤ length l
+    → set (set (set (set (set l 0 a) 1 b) 2 c) 3 d) 4 e ≡ put (a ∷ (b ∷ (c ∷ (d ∷ (e ∷ []))))) l
+put-five a b c d e l h = ap (λ (x : List ℕ). set (set x 3 d) 4 e) (put-three a b c l (omega arith)) ∙ put-two-more a b c d e l h
+
 -- ---- the number that open answers
 
 -- A refusal comes with no tests, and no open has many: its number fits where its refusal does.
-pub opened-low : (cat : Catalogue) (cells : List ℕ) (a : Asked) (keys left right : List ℕ) (o : Opened) (top : ℕ)
-    → o ≡ openingFor cat cells a keys left right → 1000000 ≤ top → o .refusal < top → openedNumber o < top
-opened-low cat cells a keys left right o top same big h =
-    subst (λ (x : Opened). openedNumber x < top) (sym same) (by (openFault cat (length cells) a (storeIn keys left right 0)) refl)
+pub opened-low : (cat : Catalogue) (cells : List ℕ) (a : Asked) (low high left right : List ℕ) (o : Opened) (top : ℕ)
+    → o ≡ openingFor cat cells a low high left right → mostTests * 32 < top → o .refusal < top → openedNumber o < top
+opened-low cat cells a low high left right o top same big h =
+    subst (λ (x : Opened). openedNumber x < top) (sym same) (by (openFault cat (length cells) a (storeIn low high left right 0)) refl)
   where
-    by : (k : ℕ) → openFault cat (length cells) a (storeIn keys left right 0) ≡ k → openedNumber (openingFor cat cells a keys left right) < top
-    by zero e = omega (arith, open-few cat cells a keys left right, opening-says cat cells a keys left right)
+    by : (k : ℕ) → openFault cat (length cells) a (storeIn low high left right 0) ≡ k → openedNumber (openingFor cat cells a low high left right) < top
+    by zero e = omega (arith, open-few cat cells a low high left right, opening-says cat cells a low high left right)
     by (suc k) e =
-        let r = opening-refused cat cells a keys left right (suc k) e (λ z. omega arith) in
+        let r = opening-refused cat cells a low high left right (suc k) e (λ z. omega arith) in
         rw r (omega (arith, ap (λ (x : Opened). x .refusal) same, ap (λ (x : Opened). x .refusal) r))
 
 -- ---- where the words are not too few
@@ -79,17 +78,18 @@ next-enough w catalogue words result e =
 
 -- ---- open
 
-module _ (few : Bool) (o : Opened) (keys left right words : List ℕ) where
-  pub open-short : few ≡ true → Opening few o keys left right words tooFewWords keys left right words
-  open-short e = record { answer = rw e; keys-after = rw e; left-after = rw e; right-after = rw e; words-after = rw e }
+module _ (few : Bool) (o : Opened) (low high left right words : List ℕ) where
+  pub open-short : few ≡ true → Opening few o low high left right words tooFewWords low high left right words
+  open-short e = record { answer = rw e; low-after = rw e; high-after = rw e; left-after = rw e; right-after = rw e; words-after = rw e }
 
-  pub open-done : (a : Asked) (r : OpenAnswer) (k : ℕ) (keys′ left′ right′ words′ : List ℕ) → few ≡ false → openedWith a r keys′ left′ right′ ≡ o
-      → k ≡ openedNumber (openedWith a r keys′ left′ right′) → words′ ≡ put (wordsOfState (stateWith a (r .stream) keys′ left′ right′)) words
-      → Opening few o keys left right words k keys′ left′ right′ words′
-  open-done a r k keys′ left′ right′ words′ e p n w =
+  pub open-done : (a : Asked) (r : OpenAnswer) (k : ℕ) (low′ high′ left′ right′ words′ : List ℕ) → few ≡ false → openedWith a r low′ high′ left′ right′ ≡ o
+      → k ≡ openedNumber (openedWith a r low′ high′ left′ right′) → words′ ≡ put (wordsOfState (stateWith a (r .stream) low′ high′ left′ right′)) words
+      → Opening few o low high left right words k low′ high′ left′ right′ words′
+  open-done a r k low′ high′ left′ right′ words′ e p n w =
       record {
         answer = rw e (n ∙ ap openedNumber p);
-        keys-after = rw e (ap (λ (x : Opened). x .after .store .keys) p);
+        low-after = rw e (ap (λ (x : Opened). x .after .store .low) p);
+        high-after = rw e (ap (λ (x : Opened). x .after .store .high) p);
         left-after = rw e (ap (λ (x : Opened). x .after .store .left) p);
         right-after = rw e (ap (λ (x : Opened). x .after .store .right) p);
         words-after = rw e (w ∙ ap (λ (x : Opened). put (wordsOfState (x .after)) words) p);
@@ -97,19 +97,21 @@ module _ (few : Bool) (o : Opened) (keys left right words : List ℕ) where
 
 -- ---- a stream call
 
-module _ (few : Bool) (s : Called) (keys left right words row result : List ℕ) where
-  pub next-short : few ≡ true → Calling few s keys left right words row result tooFewWords keys left right words row result
+module _ (few : Bool) (s : Called) (low high left right words row result : List ℕ) where
+  pub next-short : few ≡ true → Calling few s low high left right words row result tooFewWords low high left right words row result
   next-short e =
-      record { answer = rw e; keys-after = rw e; left-after = rw e; right-after = rw e; words-after = rw e; row-after = rw e; result-after = rw e }
+      record { answer = rw e; low-after = rw e; high-after = rw e; left-after = rw e; right-after = rw e; words-after = rw e; row-after = rw e; result-after = rw e }
 
-  pub next-done : (a : Asked) (r : StepAnswer) (k : ℕ) (keys′ left′ right′ words′ row′ result′ : List ℕ) → few ≡ false
-      → calledWith a r keys′ left′ right′ row′ ≡ s → k ≡ answerNumber (saysOf (r .answer))
-      → words′ ≡ put (wordsOfState (stateWith a (r .stream) keys′ left′ right′)) words → result′ ≡ put (resultOf (r .key) (r .trials) (r .tests) (r .looks)) result
-      → Calling few s keys left right words row result k keys′ left′ right′ words′ row′ result′
-  next-done a r k keys′ left′ right′ words′ row′ result′ e p n w v =
+  pub next-done : (a : Asked) (r : StepAnswer) (k : ℕ) (low′ high′ left′ right′ words′ row′ result′ : List ℕ) → few ≡ false
+      → calledWith a r low′ high′ left′ right′ row′ ≡ s → k ≡ answerNumber (saysOf (r .answer))
+      → words′ ≡ put (wordsOfState (stateWith a (r .stream) low′ high′ left′ right′)) words
+      → result′ ≡ put (resultOf (lowOf (numberOf (r .key))) (highOf (numberOf (r .key))) (r .trials) (r .tests) (r .looks)) result
+      → Calling few s low high left right words row result k low′ high′ left′ right′ words′ row′ result′
+  next-done a r k low′ high′ left′ right′ words′ row′ result′ e p n w v =
       record {
         answer = rw e (n ∙ ap (λ (x : Called). answerNumber (x .says)) p);
-        keys-after = rw e (ap (λ (x : Called). x .after .store .keys) p);
+        low-after = rw e (ap (λ (x : Called). x .after .store .low) p);
+        high-after = rw e (ap (λ (x : Called). x .after .store .high) p);
         left-after = rw e (ap (λ (x : Called). x .after .store .left) p);
         right-after = rw e (ap (λ (x : Called). x .after .store .right) p);
         words-after = rw e (w ∙ ap (λ (x : Called). put (wordsOfState (x .after)) words) p);

@@ -1,4 +1,4 @@
--- What the stream's calls from C promise: each is the library's own call, with a stream record as 3 words (5 where it names a row) and the counts of a call as 4. Where a lent
+-- What the stream's calls from C promise: each is the library's own call, with a stream record as 3 words (5 where it names a row) and the key and the counts of a call as 5. Where a lent
 -- slice has fewer words than its call needs, the answer is 31 and nothing changes. Assumes nothing.
 use Prim.Native.Nat.{ℕ, _+_, _*_}
 use mathlib.Core.Path.{_≡_}
@@ -9,6 +9,7 @@ use lib.Dec.{ltb}
 use Rattle.laws.specs.Lists.{put}
 use Rattle.machine.specs.Machine.{State, Says, aSet, finished, working, refused, Called, call, Opened, opening, openingHolding}
 use Rattle.disjunction.specs.Asked.{Asked, everySet, everyWith}
+use Rattle.keys.specs.TwoWords.{lowOf, highOf}
 use Rattle.stream.specs.declared.StreamRecord.{StreamRecord}
 use Rattle.stream.specs.declared.HoldingRecord.{HoldingRecord}
 use Rattle.stream.specs.Promises.{stateOf, holdingStateOf}
@@ -27,7 +28,7 @@ holdingWords = 5
 
 -- How many words a result has.
 abbrev pub resultWords : ℕ
-resultWords = 4
+resultWords = 5
 
 -- Found, taken, next row of a stream record.
 abbrev pub wordsOfRecord : StreamRecord → List ℕ
@@ -54,13 +55,13 @@ recordIn words = record { found = getD words 0 0; taken = getD words 1 0; «next
 abbrev pub holdingIn : List ℕ → HoldingRecord
 holdingIn words = record { stream = recordIn words; table = getD words 3 0; row = getD words 4 0 }
 
--- The words of a result: key, trials, row tests, looks.
-abbrev pub resultOf : ℕ → ℕ → ℕ → ℕ → List ℕ
-resultOf key trials tests looks = key ∷ (trials ∷ (tests ∷ (looks ∷ [])))
+-- The words of a result: both words of the key, trials, row tests, looks.
+abbrev pub resultOf : ℕ → ℕ → ℕ → ℕ → ℕ → List ℕ
+resultOf low high trials tests looks = low ∷ (high ∷ (trials ∷ (tests ∷ (looks ∷ []))))
 
 -- Those of a call of the machine.
 abbrev pub resultOfCall : Called → List ℕ
-resultOfCall s = resultOf (s .key) (s .trials) (s .tests) (s .looks)
+resultOfCall s = resultOf (lowOf (s .key)) (highOf (s .key)) (s .trials) (s .tests) (s .looks)
 
 -- ---- the numbers that are answered
 
@@ -86,17 +87,19 @@ unfoldable pub nextShort : ℕ → List ℕ → List ℕ → List ℕ → Bool
 nextShort w catalogue words result = openShort w catalogue words || ltb (length result) resultWords
 
 -- What an open o of the machine comes to in the lent slices: its number, the store, and the words of the record; nothing where the words are too few.
-pub record Opening (few : Bool) (o : Opened) (keys left right words : List ℕ) (r : ℕ) (keys′ left′ right′ words′ : List ℕ) : Type 0 where
+pub record Opening (few : Bool) (o : Opened) (low high left right words : List ℕ) (r : ℕ) (low′ high′ left′ right′ words′ : List ℕ) : Type 0 where
   pub answer : r ≡ cond few tooFewWords (openedNumber o)
-  pub keys-after : keys′ ≡ cond few keys (o .after .store .keys)
+  pub low-after : low′ ≡ cond few low (o .after .store .low)
+  pub high-after : high′ ≡ cond few high (o .after .store .high)
   pub left-after : left′ ≡ cond few left (o .after .store .left)
   pub right-after : right′ ≡ cond few right (o .after .store .right)
   pub words-after : words′ ≡ cond few words (put (wordsOfState (o .after)) words)
 
 -- What a call s of the machine comes to: its number, the store, the words of the record, the padded row, and the words of the result.
-pub record Calling (few : Bool) (s : Called) (keys left right words row result : List ℕ) (r : ℕ) (keys′ left′ right′ words′ row′ result′ : List ℕ) : Type 0 where
+pub record Calling (few : Bool) (s : Called) (low high left right words row result : List ℕ) (r : ℕ) (low′ high′ left′ right′ words′ row′ result′ : List ℕ) : Type 0 where
   pub answer : r ≡ cond few tooFewWords (answerNumber (s .says))
-  pub keys-after : keys′ ≡ cond few keys (s .after .store .keys)
+  pub low-after : low′ ≡ cond few low (s .after .store .low)
+  pub high-after : high′ ≡ cond few high (s .after .store .high)
   pub left-after : left′ ≡ cond few left (s .after .store .left)
   pub right-after : right′ ≡ cond few right (s .after .store .right)
   pub words-after : words′ ≡ cond few words (put (wordsOfState (s .after)) words)
@@ -106,28 +109,28 @@ pub record Calling (few : Bool) (s : Called) (keys left right words row result :
 -- ---- the promises, a name each
 
 -- harbour_open: the library's open, on what is lent as words.
-abbrev pub OpenCall : (catalogue cells keys left right words : List ℕ) (r : ℕ) (keys′ left′ right′ words′ : List ℕ) → Type 0
-OpenCall catalogue cells keys left right words =
-    Opening (openShort recordWords catalogue words) (opening (catalogueIn catalogue) cells keys left right) keys left right words
+abbrev pub OpenCall : (catalogue cells low high left right words : List ℕ) (r : ℕ) (low′ high′ left′ right′ words′ : List ℕ) → Type 0
+OpenCall catalogue cells low high left right words =
+    Opening (openShort recordWords catalogue words) (opening (catalogueIn catalogue) cells low high left right) low high left right words
 
 -- harbour_next: the library's stream call.
-abbrev pub NextCall : (catalogue cells keys left right words : List ℕ) (budget : ℕ) (row result : List ℕ)
-    (r : ℕ) (keys′ left′ right′ words′ row′ result′ : List ℕ) → Type 0
-NextCall catalogue cells keys left right words budget row result =
-    Calling (nextShort recordWords catalogue words result) (call (catalogueIn catalogue) cells budget (stateOf (recordIn words) keys left right) row)
-    keys left right words row result
+abbrev pub NextCall : (catalogue cells low high left right words : List ℕ) (budget : ℕ) (row result : List ℕ)
+    (r : ℕ) (low′ high′ left′ right′ words′ row′ result′ : List ℕ) → Type 0
+NextCall catalogue cells low high left right words budget row result =
+    Calling (nextShort recordWords catalogue words result) (call (catalogueIn catalogue) cells budget (stateOf (recordIn words) low high left right) row)
+    low high left right words row result
 
 -- harbour_open_holding: the library's open of the sets that hold row n of table t.
-abbrev pub OpenHoldingCall : (catalogue cells keys left right : List ℕ) (t n : ℕ) (words : List ℕ) (r : ℕ) (keys′ left′ right′ words′ : List ℕ) → Type 0
-OpenHoldingCall catalogue cells keys left right t n words =
+abbrev pub OpenHoldingCall : (catalogue cells low high left right : List ℕ) (t n : ℕ) (words : List ℕ) (r : ℕ) (low′ high′ left′ right′ words′ : List ℕ) → Type 0
+OpenHoldingCall catalogue cells low high left right t n words =
     Opening (openShort holdingWords catalogue words)
-    (openingHolding (catalogueIn catalogue) cells (record { table = t; row = n }) keys left right)
-    keys left right words
+    (openingHolding (catalogueIn catalogue) cells (record { table = t; row = n }) low high left right)
+    low high left right words
 
 -- harbour_next_holding: the library's call of that stream.
-abbrev pub NextHoldingCall : (catalogue cells keys left right words : List ℕ) (budget : ℕ) (row result : List ℕ)
-    (r : ℕ) (keys′ left′ right′ words′ row′ result′ : List ℕ) → Type 0
-NextHoldingCall catalogue cells keys left right words budget row result =
+abbrev pub NextHoldingCall : (catalogue cells low high left right words : List ℕ) (budget : ℕ) (row result : List ℕ)
+    (r : ℕ) (low′ high′ left′ right′ words′ row′ result′ : List ℕ) → Type 0
+NextHoldingCall catalogue cells low high left right words budget row result =
     Calling (nextShort holdingWords catalogue words result)
-    (call (catalogueIn catalogue) cells budget (holdingStateOf (holdingIn words) keys left right) row)
-    keys left right words row result
+    (call (catalogueIn catalogue) cells budget (holdingStateOf (holdingIn words) low high left right) row)
+    low high left right words row result

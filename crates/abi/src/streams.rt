@@ -1,11 +1,13 @@
-// The stream's calls for C and Rust: the store in three slices, a record as 3 words (5 where it names a row), a result as 4.
+// The stream's calls for C and Rust: the store in four slices, a record as 3 words (5 where it names a row), a result as 5, its key first.
 ghost use mathlib.Core.Path.{_≡_};
 ghost use Prim.Native.Nat.{_≤_};
 ghost use lib.ListN.{length};
 ghost use Rattle.laws.specs.Lists.{put};
+ghost use Rattle.keys.specs.TwoWords.{lowOf, highOf, numberOf};
 ghost use Rattle.stream.specs.Promises.{saysOf};
 ghost use Rattle.abi.specs.Calls.{CoversCall};
 ghost use Rattle.abi.specs.Streams.{recordWords, holdingWords, resultWords, wordsOfRecord, wordsOfHolding, recordIn, holdingIn, resultOf, answerNumber, openShort, nextShort, OpenCall, NextCall, OpenHoldingCall, NextHoldingCall};
+use keys::Key;
 use stream::Answer;
 use stream::HoldingRecord;
 use stream::StreamRecord;
@@ -14,6 +16,9 @@ use stream::StreamRecord;
 const RECORD_WORDS: usize = 3;
 
 const HOLDING_WORDS: usize = 5;
+
+// The words of a result.
+const RESULT_WORDS: usize = 5;
 
 // The stream record that the front of the lent words holds.
 // Nothing is judged here: the call refuses a record that does not fit.
@@ -66,15 +71,16 @@ fn put_holding(holding: HoldingRecord, words: &mut [u64])
 }
 
 // Copies the key and the counts of an answer into the front of the lent words.
-// What lies behind the 4 words stays.
-fn put_result(key: u64, trials: usize, tests: usize, looks: usize, words: &mut [u64])
+// What lies behind the 5 words stays.
+fn put_result(key: Key, trials: usize, tests: usize, looks: usize, words: &mut [u64])
     requires { ⌜ resultWords ≤ length (now words) ⌝ }
-    ensures { λ _. ⌜ now (words .exit) ≡ put (resultOf key trials tests looks) (now (words .entry)) ⌝ }
+    ensures { λ _. ⌜ now (words .exit) ≡ put (resultOf (lowOf (numberOf key)) (highOf (numberOf key)) trials tests looks) (now (words .entry)) ⌝ }
 {
-    words[0] = key;
-    words[1] = trials as u64;
-    words[2] = tests as u64;
-    words[3] = looks as u64;
+    words[0] = keys::low_word(key);
+    words[1] = keys::high_word(key);
+    words[2] = trials as u64;
+    words[3] = tests as u64;
+    words[4] = looks as u64;
 }
 
 // An answer as a number: a refusal's own, else 32 for a set, 64 for the end, 96 for a spent budget.
@@ -109,7 +115,7 @@ fn next_short(catalogue: &[u64], words: &[u64], result: &[u64], needed: usize) -
     if open_short(catalogue, words, needed) {
         return true;
     }
-    result.len() < 4
+    result.len() < RESULT_WORDS
 }
 
 // Opens a stream on the tables, and copies its record into the lent words.
@@ -118,18 +124,19 @@ fn next_short(catalogue: &[u64], words: &[u64], result: &[u64], needed: usize) -
 pub extern "C" fn harbour_open(
     catalogue: &[u64],
     cells: &[u64],
-    keys: &mut [u64],
+    low: &mut [u64],
+    high: &mut [u64],
     left: &mut [u16],
     right: &mut [u16],
     words: &mut [u64],
 ) -> u64
-    ensures { λ r. ⌜ OpenCall (now (catalogue .entry)) (now (cells .entry)) (now (keys .entry)) (now (left .entry)) (now (right .entry)) (now (words .entry)) r (now (keys .exit)) (now (left .exit)) (now (right .exit)) (now (words .exit)) ⌝ }
+    ensures { λ r. ⌜ OpenCall (now (catalogue .entry)) (now (cells .entry)) (now (low .entry)) (now (high .entry)) (now (left .entry)) (now (right .entry)) (now (words .entry)) r (now (low .exit)) (now (high .exit)) (now (left .exit)) (now (right .exit)) (now (words .exit)) ⌝ }
 {
     if open_short(catalogue, words, RECORD_WORDS) {
         return 31;
     }
     let cat = crate::catalogue_in(catalogue);
-    let r = stream::open(cat, cells, keys, left, right);
+    let r = stream::open(cat, cells, low, high, left, right);
     let opened = r.stream;
     put_record(opened, words);
     (r.tests as u64) * 32 + (r.refusal as u64)
@@ -141,7 +148,8 @@ pub extern "C" fn harbour_open(
 pub extern "C" fn harbour_next(
     catalogue: &[u64],
     cells: &[u64],
-    keys: &mut [u64],
+    low: &mut [u64],
+    high: &mut [u64],
     left: &mut [u16],
     right: &mut [u16],
     words: &mut [u64],
@@ -149,7 +157,7 @@ pub extern "C" fn harbour_next(
     padded: &mut [u64],
     result: &mut [u64],
 ) -> u64
-    ensures { λ r. ⌜ NextCall (now (catalogue .entry)) (now (cells .entry)) (now (keys .entry)) (now (left .entry)) (now (right .entry)) (now (words .entry)) budget (now (padded .entry)) (now (result .entry)) r (now (keys .exit)) (now (left .exit)) (now (right .exit)) (now (words .exit)) (now (padded .exit)) (now (result .exit)) ⌝ }
+    ensures { λ r. ⌜ NextCall (now (catalogue .entry)) (now (cells .entry)) (now (low .entry)) (now (high .entry)) (now (left .entry)) (now (right .entry)) (now (words .entry)) budget (now (padded .entry)) (now (result .entry)) r (now (low .exit)) (now (high .exit)) (now (left .exit)) (now (right .exit)) (now (words .exit)) (now (padded .exit)) (now (result .exit)) ⌝ }
 {
     if next_short(catalogue, words, result, RECORD_WORDS) {
         return 31;
@@ -159,7 +167,8 @@ pub extern "C" fn harbour_next(
     let r = stream::step(
         cat,
         cells,
-        keys,
+        low,
+        high,
         left,
         right,
         before,
@@ -179,20 +188,30 @@ pub extern "C" fn harbour_next(
 pub extern "C" fn harbour_open_holding(
     catalogue: &[u64],
     cells: &[u64],
-    keys: &mut [u64],
+    low: &mut [u64],
+    high: &mut [u64],
     left: &mut [u16],
     right: &mut [u16],
     table: u64,
     row: u64,
     words: &mut [u64],
 ) -> u64
-    ensures { λ r. ⌜ OpenHoldingCall (now (catalogue .entry)) (now (cells .entry)) (now (keys .entry)) (now (left .entry)) (now (right .entry)) table row (now (words .entry)) r (now (keys .exit)) (now (left .exit)) (now (right .exit)) (now (words .exit)) ⌝ }
+    ensures { λ r. ⌜ OpenHoldingCall (now (catalogue .entry)) (now (cells .entry)) (now (low .entry)) (now (high .entry)) (now (left .entry)) (now (right .entry)) table row (now (words .entry)) r (now (low .exit)) (now (high .exit)) (now (left .exit)) (now (right .exit)) (now (words .exit)) ⌝ }
 {
     if open_short(catalogue, words, HOLDING_WORDS) {
         return 31;
     }
     let cat = crate::catalogue_in(catalogue);
-    let r = stream::open_holding(cat, cells, keys, left, right, table as usize, row as usize);
+    let r = stream::open_holding(
+        cat,
+        cells,
+        low,
+        high,
+        left,
+        right,
+        table as usize,
+        row as usize,
+    );
     let opened = r.stream;
     put_holding(opened, words);
     (r.tests as u64) * 32 + (r.refusal as u64)
@@ -204,7 +223,8 @@ pub extern "C" fn harbour_open_holding(
 pub extern "C" fn harbour_next_holding(
     catalogue: &[u64],
     cells: &[u64],
-    keys: &mut [u64],
+    low: &mut [u64],
+    high: &mut [u64],
     left: &mut [u16],
     right: &mut [u16],
     words: &mut [u64],
@@ -212,7 +232,7 @@ pub extern "C" fn harbour_next_holding(
     padded: &mut [u64],
     result: &mut [u64],
 ) -> u64
-    ensures { λ r. ⌜ NextHoldingCall (now (catalogue .entry)) (now (cells .entry)) (now (keys .entry)) (now (left .entry)) (now (right .entry)) (now (words .entry)) budget (now (padded .entry)) (now (result .entry)) r (now (keys .exit)) (now (left .exit)) (now (right .exit)) (now (words .exit)) (now (padded .exit)) (now (result .exit)) ⌝ }
+    ensures { λ r. ⌜ NextHoldingCall (now (catalogue .entry)) (now (cells .entry)) (now (low .entry)) (now (high .entry)) (now (left .entry)) (now (right .entry)) (now (words .entry)) budget (now (padded .entry)) (now (result .entry)) r (now (low .exit)) (now (high .exit)) (now (left .exit)) (now (right .exit)) (now (words .exit)) (now (padded .exit)) (now (result .exit)) ⌝ }
 {
     if next_short(catalogue, words, result, HOLDING_WORDS) {
         return 31;
@@ -222,7 +242,8 @@ pub extern "C" fn harbour_next_holding(
     let r = stream::step_holding(
         cat,
         cells,
-        keys,
+        low,
+        high,
         left,
         right,
         before,

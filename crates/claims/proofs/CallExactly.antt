@@ -277,29 +277,30 @@ module _ (cat : Catalogue) (cells : List ℕ) (b : ℕ) (q : State) (row : List 
 
 -- ---- open
 
-pub open-exact : (cat : Catalogue) (cells : List ℕ) (a : Asked) (keys left right : List ℕ) → OpenExact cat cells a (openingFor cat cells a) keys left right
-open-exact cat cells a keys left right =
+pub open-exact : (cat : Catalogue) (cells : List ℕ) (a : Asked) (low high left right : List ℕ)
+    → OpenExact cat cells a (openingFor cat cells a) low high left right
+open-exact cat cells a low high left right =
     record {
       catalogue = λ k h. (λ e. sym (given h) ∙ e, λ e. given h ∙ e);
       refusal-19 = (
-        λ e. let L = lawful 19 (catalogue-not cat (length cells) 19 refl) e in (L, stray-met-iff cat cells a keys left right L .0 e),
-        λ (L, n). stray-met-iff cat cells a keys left right L .1 n,
+        λ e. let L = lawful 19 (catalogue-not cat (length cells) 19 refl) e in (L, stray-met-iff cat cells a low high left right L .0 e),
+        λ (L, n). stray-met-iff cat cells a low high left right L .1 n,
       );
       refusal-12 = (
-        λ e. let L = lawful 12 (catalogue-not cat (length cells) 12 refl) e in let (y, n, z) = full-iff cat cells a keys left right L .0 e in (L, y, n, z),
-        λ (L, y, n, z). full-iff cat cells a keys left right L .1 (y, n, z),
+        λ e. let L = lawful 12 (catalogue-not cat (length cells) 12 refl) e in let (y, n, z) = full-iff cat cells a low high left right L .0 e in (L, y, n, z),
+        λ (L, y, n, z). full-iff cat cells a low high left right L .1 (y, n, z),
       );
-      none = opens-iff cat cells a keys left right;
+      none = opens-iff cat cells a low high left right;
       no-other = λ k e. subst (Others) e refusals;
     }
   where
-    given : (catalogueFault cat (length cells) ≡ 0 → ⊥) → openingFor cat cells a keys left right .refusal ≡ catalogueFault cat (length cells)
-    given h = opening-says cat cells a keys left right ∙ open-catalogue cat (length cells) a (storeIn keys left right 0) h
+    given : (catalogueFault cat (length cells) ≡ 0 → ⊥) → openingFor cat cells a low high left right .refusal ≡ catalogueFault cat (length cells)
+    given h = opening-says cat cells a low high left right ∙ open-catalogue cat (length cells) a (storeIn low high left right 0) h
 
     Others : ℕ → Type 0
     Others k = (k ≡ 0) ⊎ OfCatalogue k ⊎ (k ≡ 19) ⊎ (k ≡ 12)
 
-    lawful : (k : ℕ) → (catalogueFault cat (length cells) ≡ k → ⊥) → openingFor cat cells a keys left right .refusal ≡ k → Lawful cat (length cells)
+    lawful : (k : ℕ) → (catalogueFault cat (length cells) ≡ k → ⊥) → openingFor cat cells a low high left right .refusal ≡ k → Lawful cat (length cells)
     lawful k l e =
         elim (ℕ-discrete (catalogueFault cat (length cells)) 0) [
           | yes z ↦ fault-lawful cat (length cells) z
@@ -307,16 +308,17 @@ open-exact cat cells a keys left right =
         ]
 
     given-none : Lawful cat (length cells) → (stray cat a ≡ true) ⊎ (stray cat a ≡ false) → (total cat ≡ 0) ⊎ (0 < total cat)
-        → (roomIn (storeIn keys left right 0) ≡ 0) ⊎ (0 < roomIn (storeIn keys left right 0)) → Others (openingFor cat cells a keys left right .refusal)
-    given-none L (inl e) n r = inr (inr (inl (stray-met cat cells a keys left right L e)))
-    given-none L (inr e) (inl z) r = inl (opens-iff cat cells a keys left right .1 (L, stray-iff cat a .0 e, λ h. absurd (omega arith)))
-    given-none L (inr e) (inr h) (inl z) = inr (inr (inr (full-iff cat cells a keys left right L .1 (stray-iff cat a .0 e, h, z))))
-    given-none L (inr e) (inr h) (inr p) = inl (opens-iff cat cells a keys left right .1 (L, stray-iff cat a .0 e, λ h. p))
+        → (roomIn (storeIn low high left right 0) ≡ 0) ⊎ (0 < roomIn (storeIn low high left right 0))
+        → Others (openingFor cat cells a low high left right .refusal)
+    given-none L (inl e) n r = inr (inr (inl (stray-met cat cells a low high left right L e)))
+    given-none L (inr e) (inl z) r = inl (opens-iff cat cells a low high left right .1 (L, stray-iff cat a .0 e, λ h. absurd (omega arith)))
+    given-none L (inr e) (inr h) (inl z) = inr (inr (inr (full-iff cat cells a low high left right L .1 (stray-iff cat a .0 e, h, z))))
+    given-none L (inr e) (inr h) (inr p) = inl (opens-iff cat cells a low high left right .1 (L, stray-iff cat a .0 e, λ h. p))
 
-    refusals : Others (openingFor cat cells a keys left right .refusal)
+    refusals : Others (openingFor cat cells a low high left right .refusal)
     refusals =
         elim (ℕ-discrete (catalogueFault cat (length cells)) 0) [
           | yes z ↦ given-none (fault-lawful cat (length cells) z) (which (stray cat a)) (eq-zero-or-pos (total cat))
-              (eq-zero-or-pos (roomIn (storeIn keys left right 0)))
+              (eq-zero-or-pos (roomIn (storeIn low high left right 0)))
           | no h ↦ subst Others (sym (given h)) (inr (inl (catalogue-met cat (length cells) h)))
         ]

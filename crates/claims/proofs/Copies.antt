@@ -18,7 +18,7 @@ use Rattle.store.specs.Store.{roomIn, searchOf, added, answerOf, storeAfter}
 use Rattle.store.specs.declared.Looked.{Looked}
 use Rattle.store.specs.declared.Looked.the-variants.{Found, Absent, Damaged}
 use Rattle.store.specs.declared.Placed.the-variants.{Added, Full}
-use Rattle.store.proofs.StoreLaws.{absent-place, room-added, copy-search, copy-added}
+use Rattle.store.proofs.StoreLaws.{absent-place, room-added, copy-key, copy-search, copy-added}
 use Rattle.machine.specs.Machine.{State, keyAt, Trial, done, full, damaged, raised, placed, offered, offeredIf, deepest, trialDue, trialOn}
 use Rattle.claims.specs.Demands.{Copy}
 
@@ -28,7 +28,8 @@ copy-trans e m r a b =
     record {
       store = record {
         found = b .store .found ∙ sym f;
-        keys = λ p l. b .store .keys p (omega arith) ∙ sym (a .store .keys p (omega arith));
+        low = λ p l. b .store .low p (omega arith) ∙ sym (a .store .low p (omega arith));
+        high = λ p l. b .store .high p (omega arith) ∙ sym (a .store .high p (omega arith));
         left = λ p l. b .store .left p (omega arith) ∙ sym (a .store .left p (omega arith));
         right = λ p l. b .store .right p (omega arith) ∙ sym (a .store .right p (omega arith));
       };
@@ -115,7 +116,7 @@ module _ (cat : Catalogue) (cells : List ℕ) where
       same : trialOn cat cells r ≡ cond (named cat k) (at r k (q .next) (q .asked)) damaged
       same =
           ap₂ (λ (x j : ℕ). cond (named cat x) (at r x j (r .asked)) damaged)
-          (ap (λ (x : ℕ). keyAt r (x - 1)) (c .taken) ∙ c .store .keys (q .taken - 1) (omega arith)) (c .next)
+          (ap (λ (x : ℕ). keyAt r (x - 1)) (c .taken) ∙ copy-key (q .store) (r .store) (c .store) (q .taken - 1) (omega arith)) (c .next)
           ∙ ap (λ (a : Asked). cond (named cat k) (at r k (q .next) a) damaged) (c .asked)
 
       by : (y : Bool) → Alike q r (cond y (at q k (q .next) (q .asked)) damaged) (cond y (at r k (q .next) (q .asked)) damaged)

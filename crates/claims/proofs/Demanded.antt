@@ -215,8 +215,8 @@ module _ (cat : Catalogue) (cells : List ℕ) (a : Asked) (L : Lawful cat (lengt
         }
 
 pub demands : (cat : Catalogue) (cells : List ℕ) (a : Asked) → Demands cat cells a
-demands cat cells a keys left right e =
-    let (L, o) = begins cat cells a keys left right e in
-    let c = roomIn (storeIn keys left right 0) in
-    let q = openingFor cat cells a keys left right .after in
+demands cat cells a low high left right e =
+    let (L, o) = begins cat cells a low high left right e in
+    let c = roomIn (storeIn low high left right 0) in
+    let q = openingFor cat cells a low high left right .after in
     (demand2 cat cells a L c q o, demand3 cat cells a L c q o)

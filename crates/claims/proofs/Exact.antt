@@ -25,8 +25,9 @@ pub demand1 : (cat : Catalogue) (cells : List ℕ) (a : Asked) → Demand1 cat c
 demand1 cat cells a =
     record {
       opens = open-exact cat cells a;
-      zeroed = λ k l r h.
-          let e = opening-refused cat cells a k l r (openFault cat (length cells) a (storeIn k l r 0)) refl (λ z. h (opening-says cat cells a k l r ∙ z)) in
+      zeroed = λ k u l r h.
+          let e =
+          opening-refused cat cells a k u l r (openFault cat (length cells) a (storeIn k u l r 0)) refl (λ z. h (opening-says cat cells a k u l r ∙ z)) in
           (ap (λ (x : Opened). x .after) e, ap (λ (x : Opened). x .tests) e);
       calls = call-exact cat cells;
       refuses = λ b q row h. call-refused cat cells b q row (callFault cat (length cells) q row) refl h;

@@ -30,10 +30,11 @@ use Rattle.machine.proofs.RefusalLaws.{call-refused}
 use Rattle.stream.specs.Promises.{stateOf, holdingStateOf}
 use Rattle.abi.specs.Words.{catalogueWords, tableWords, wordsOf, catalogueIn}
 use Rattle.abi.specs.Calls.{tooFewWords, short, LoadCall, makeShort, madeIn, MakeCall, writtenNumber, WriteCall}
-use Rattle.abi.specs.Lists.{verdictNumber, verdictWord, verdictWords, listShort, ListCall}
+use Rattle.abi.specs.Lists.{verdictNumber, namedWords, verdictWords, listShort, ListCall}
 use Rattle.hub.specs.declared.ListVerdict.{ListVerdict}
 use Rattle.hub.specs.declared.ListVerdict.the-variants as Hub
-use Rattle.hub.specs.Promises.{checked}
+use Rattle.keys.specs.TwoWords.{firstWord, secondWord}
+use Rattle.hub.specs.Promises.{listedKeys, checked}
 use Rattle.abi.specs.Streams.{recordWords, holdingWords, resultWords, wordsOfState, recordIn, holdingIn, resultOfCall, answerNumber, openedNumber, openShort, nextShort, Opening, Calling}
 use Rattle.claims.specs.CatalogueRefusals.{OfCatalogue}
 use Rattle.claims.specs.CallsForC.{Reads, ReadsList, OpenTold, CallTold, FewToOpen, FewToCall, AbiExact}
@@ -154,11 +155,12 @@ module _ (words cells out : List ℕ) (r : ℕ) (out′ : List ℕ) (c : WriteCa
   write-low : (k : ℕ) → says ≡ Written.Refused k → k < tooFewWords
   write-low k e = by (write-exact (catalogueIn words) cells (length out) .no-other k e)
     where
-      by : OfCatalogue k ⊎ (k ≡ 10) ⊎ (k ≡ 7) ⊎ (k ≡ 11) → k < tooFewWords
+      by : OfCatalogue k ⊎ (k ≡ 10) ⊎ (k ≡ 21) ⊎ (k ≡ 7) ⊎ (k ≡ 11) → k < tooFewWords
       by (inl x) = omega (arith, of-catalogue-low k x)
       by (inr (inl e)) = omega arith
       by (inr (inr (inl e))) = omega arith
-      by (inr (inr (inr e))) = omega arith
+      by (inr (inr (inr (inl e)))) = omega arith
+      by (inr (inr (inr (inr e)))) = omega arith
 
   write-apart : writtenNumber says ≡ tooFewWords → ⊥
   write-apart = by says refl
@@ -189,13 +191,13 @@ module _ (words cells out : List ℕ) (r : ℕ) (out′ : List ℕ) (c : WriteCa
 -- ---- open
 
 -- Of either stream, whose record has w words.
-module _ (w : ℕ) (a : Asked) (catalogue cells keys left right words : List ℕ) (r : ℕ) (ks ls rs ws : List ℕ)
-    (c : Opening (openShort w catalogue words) (openingFor (catalogueIn catalogue) cells a keys left right) keys left right words r ks ls rs ws) where
+module _ (w : ℕ) (a : Asked) (catalogue cells low high left right words : List ℕ) (r : ℕ) (ks hs ls rs ws : List ℕ)
+    (c : Opening (openShort w catalogue words) (openingFor (catalogueIn catalogue) cells a low high left right) low high left right words r ks hs ls rs ws) where
   abbrev o : Opened
-  o = openingFor (catalogueIn catalogue) cells a keys left right
+  o = openingFor (catalogueIn catalogue) cells a low high left right
 
   open-low : o .refusal < tooFewWords
-  open-low = by (open-exact (catalogueIn catalogue) cells a keys left right .no-other (o .refusal) refl)
+  open-low = by (open-exact (catalogueIn catalogue) cells a low high left right .no-other (o .refusal) refl)
     where
       by : (o .refusal ≡ 0) ⊎ OfCatalogue (o .refusal) ⊎ (o .refusal ≡ 19) ⊎ (o .refusal ≡ 12) → o .refusal < tooFewWords
       by (inl e) = omega arith
@@ -207,15 +209,16 @@ module _ (w : ℕ) (a : Asked) (catalogue cells keys left right words : List ℕ
   open-few =
       only-few (openShort w catalogue words) (openedNumber o) r (open-short-iff w catalogue words) (λ e. absurd (omega (arith, open-low))) (c .answer)
 
-  open-told : (FewToOpen w catalogue words → ⊥) → OpenTold a o keys left right words r ks ls rs ws
+  open-told : (FewToOpen w catalogue words → ⊥) → OpenTold a o low high left right words r ks hs ls rs ws
   open-told n =
       let f = iff-no (openShort w catalogue words) (open-short-iff w catalogue words) .1 n in
       let e : r ≡ o .tests * 32 + o .refusal = behind (openShort w catalogue words) tooFewWords (openedNumber o) r f (c .answer) in
       record {
         reads = (omega (arith, open-low), omega (arith, open-low));
         leaves = λ h.
-            let (z, t) = demand1 (catalogueIn catalogue) cells a .zeroed keys left right h in (
-              behind (openShort w catalogue words) keys (o .after .store .keys) ks f (c .keys-after) ∙ ap (λ (q : State). q .store .keys) z,
+            let (z, t) = demand1 (catalogueIn catalogue) cells a .zeroed low high left right h in (
+              behind (openShort w catalogue words) low (o .after .store .low) ks f (c .low-after) ∙ ap (λ (q : State). q .store .low) z,
+              behind (openShort w catalogue words) high (o .after .store .high) hs f (c .high-after) ∙ ap (λ (q : State). q .store .high) z,
               behind (openShort w catalogue words) left (o .after .store .left) ls f (c .left-after) ∙ ap (λ (q : State). q .store .left) z,
               behind (openShort w catalogue words) right (o .after .store .right) rs f (c .right-after) ∙ ap (λ (q : State). q .store .right) z,
               behind (openShort w catalogue words) words (put (wordsOfState (o .after)) words) ws f (c .words-after)
@@ -241,12 +244,12 @@ put-five (x ∷ y ∷ z ∷ u ∷ []) h = absurd (omega arith)
 put-five (x ∷ y ∷ z ∷ u ∷ v ∷ l) h = refl
 
 -- Of either stream, whose record has w words and reads as a state of these lists.
-module _ (w : ℕ) (a : Asked) (catalogue cells keys left right words : List ℕ) (b found taken next : ℕ) (row result : List ℕ) (r : ℕ)
-    (ks ls rs ws w′ res : List ℕ)
-    (c : Calling (nextShort w catalogue words result) (call (catalogueIn catalogue) cells b (stateFor a keys left right found taken next) row)
-    keys left right words row result r ks ls rs ws w′ res) where
+module _ (w : ℕ) (a : Asked) (catalogue cells low high left right words : List ℕ) (b found taken next : ℕ) (row result : List ℕ) (r : ℕ)
+    (ks hs ls rs ws w′ res : List ℕ)
+    (c : Calling (nextShort w catalogue words result) (call (catalogueIn catalogue) cells b (stateFor a low high left right found taken next) row)
+    low high left right words row result r ks hs ls rs ws w′ res) where
   abbrev q : State
-  q = stateFor a keys left right found taken next
+  q = stateFor a low high left right found taken next
 
   abbrev s : Called
   s = call (catalogueIn catalogue) cells b q row
@@ -283,7 +286,8 @@ module _ (w : ℕ) (a : Asked) (catalogue cells keys left right words : List ℕ
   next-few = only-few (nextShort w catalogue words result) (answerNumber (s .says)) r (next-short-iff w catalogue words result) answer-apart (c .answer)
 
   next-told : (FewToCall w catalogue words result → ⊥) → put (wordsOfState q) words ≡ words
-      → CallTold (callFault (catalogueIn catalogue) (length cells) q row) s keys left right words row result r ks ls rs ws w′ res
+      → CallTold (callFault (catalogueIn catalogue) (length cells) q row) s low high left right words row result r ks hs ls rs ws w′ res
+  unfolding firstWord secondWord
   next-told n p =
       let few = nextShort w catalogue words result in
       let f = iff-no few (next-short-iff w catalogue words result) .1 n in
@@ -291,7 +295,8 @@ module _ (w : ℕ) (a : Asked) (catalogue cells keys left right words : List ℕ
         reads = subst (λ (x : ℕ). Reads x (s .says)) (sym (behind few tooFewWords (answerNumber (s .says)) r f (c .answer))) answer-reads;
         leaves = λ h.
             let e = call-refused (catalogueIn catalogue) cells b q row (callFault (catalogueIn catalogue) (length cells) q row) refl h in (
-              behind few keys (s .after .store .keys) ks f (c .keys-after) ∙ ap (λ (x : Called). x .after .store .keys) e,
+              behind few low (s .after .store .low) ks f (c .low-after) ∙ ap (λ (x : Called). x .after .store .low) e,
+              behind few high (s .after .store .high) hs f (c .high-after) ∙ ap (λ (x : Called). x .after .store .high) e,
               behind few left (s .after .store .left) ls f (c .left-after) ∙ ap (λ (x : Called). x .after .store .left) e,
               behind few right (s .after .store .right) rs f (c .right-after) ∙ ap (λ (x : Called). x .after .store .right) e,
               behind few words (put (wordsOfState (s .after)) words) ws f (c .words-after) ∙ ap (λ (x : Called). put (wordsOfState (x .after)) words) e ∙ p,
@@ -309,12 +314,12 @@ unfolding listShort
 list-short-iff catalogue result =
     or-iff (short catalogue) (ltb (length result) verdictWords) (lt-iff (length catalogue) catalogueWords) (lt-iff (length result) verdictWords)
 
-module _ (catalogue cells listed result : List ℕ) (r : ℕ) (result′ : List ℕ) (c : ListCall catalogue cells listed result r result′) where
+module _ (catalogue cells low high result : List ℕ) (r : ℕ) (result′ : List ℕ) (c : ListCall catalogue cells low high result r result′) where
   abbrev told : ListVerdict
-  told = checked (catalogueIn catalogue) cells listed
+  told = checked (catalogueIn catalogue) cells (listedKeys low high)
 
   list-low : (k : ℕ) → told ≡ Hub.Refused k → k < tooFewWords
-  list-low k e = by (catalogue-exact (catalogueIn catalogue) (length cells) .no-other k (list-exact (catalogueIn catalogue) cells listed told refl .refusal k .0 e .1))
+  list-low k e = by (catalogue-exact (catalogueIn catalogue) (length cells) .no-other k (list-exact (catalogueIn catalogue) cells low high told refl .refusal k .0 e .1))
     where
       by : (k ≡ 0) ⊎ OfCatalogue k → k < tooFewWords
       by (inl z) = omega arith
@@ -332,8 +337,8 @@ module _ (catalogue cells listed result : List ℕ) (r : ℕ) (result′ : List 
   list-few : (r ≡ tooFewWords) ↔ ((length catalogue < catalogueWords) ⊎ (length result < verdictWords))
   list-few = only-few (listShort catalogue result) (verdictNumber told) r (list-short-iff catalogue result) list-apart (c .answer)
 
-  list-told : ((length catalogue < catalogueWords) ⊎ (length result < verdictWords) → ⊥) → ReadsList r told × (result′ ≡ put (verdictWord told ∷ []) result)
-  list-told h = (reads told refl answered, behind (listShort catalogue result) result (put (verdictWord told ∷ []) result) result′ enough-words (c .result-after))
+  list-told : ((length catalogue < catalogueWords) ⊎ (length result < verdictWords) → ⊥) → ReadsList r told × (result′ ≡ put (namedWords told) result)
+  list-told h = (reads told refl answered, behind (listShort catalogue result) result (put (namedWords told) result) result′ enough-words (c .result-after))
     where
       enough-words : listShort catalogue result ≡ false
       enough-words = iff-no (listShort catalogue result) (list-short-iff catalogue result) .1 h
@@ -361,22 +366,22 @@ abi-exact =
       write-refused = write-refused;
       open-few = open-few recordWords everySet;
       open-told = open-told recordWords everySet;
-      open-holding-few = λ catalogue cells keys left right t n. open-few holdingWords (everyWith (record { table = t; row = n })) catalogue cells keys
-          left right;
-      open-holding-told = λ catalogue cells keys left right t n. open-told holdingWords (everyWith (record { table = t; row = n })) catalogue cells
-          keys left right;
-      next-few = λ catalogue cells keys left right words b row result.
-          next-few recordWords everySet catalogue cells keys left right words b (getD words 0 0) (getD words 1 0) (getD words 2 0) row result;
-      next-told = λ catalogue cells keys left right words b row result r ks ls rs ws w′ res c n.
-          next-told recordWords everySet catalogue cells keys left right words b (getD words 0 0) (getD words 1 0) (getD words 2 0) row result r ks ls
+      open-holding-few = λ catalogue cells low high left right t n. open-few holdingWords (everyWith (record { table = t; row = n })) catalogue cells
+          low high left right;
+      open-holding-told = λ catalogue cells low high left right t n. open-told holdingWords (everyWith (record { table = t; row = n })) catalogue cells
+          low high left right;
+      next-few = λ catalogue cells low high left right words b row result.
+          next-few recordWords everySet catalogue cells low high left right words b (getD words 0 0) (getD words 1 0) (getD words 2 0) row result;
+      next-told = λ catalogue cells low high left right words b row result r ks hs ls rs ws w′ res c n.
+          next-told recordWords everySet catalogue cells low high left right words b (getD words 0 0) (getD words 1 0) (getD words 2 0) row result r ks hs ls
           rs ws w′ res c n
           (put-three words (enough recordWords catalogue words result n));
-      next-holding-few = λ catalogue cells keys left right words b row result.
-          next-few holdingWords (everyWith (record { table = getD words 3 0; row = getD words 4 0 })) catalogue cells keys left right words b
+      next-holding-few = λ catalogue cells low high left right words b row result.
+          next-few holdingWords (everyWith (record { table = getD words 3 0; row = getD words 4 0 })) catalogue cells low high left right words b
           (getD words 0 0) (getD words 1 0) (getD words 2 0) row result;
-      next-holding-told = λ catalogue cells keys left right words b row result r ks ls rs ws w′ res c n.
-          next-told holdingWords (everyWith (record { table = getD words 3 0; row = getD words 4 0 })) catalogue cells keys left right words b
-          (getD words 0 0) (getD words 1 0) (getD words 2 0) row result r ks ls rs ws w′ res c n
+      next-holding-told = λ catalogue cells low high left right words b row result r ks hs ls rs ws w′ res c n.
+          next-told holdingWords (everyWith (record { table = getD words 3 0; row = getD words 4 0 })) catalogue cells low high left right words b
+          (getD words 0 0) (getD words 1 0) (getD words 2 0) row result r ks hs ls rs ws w′ res c n
           (put-five words (enough holdingWords catalogue words result n));
       list-few = list-few;
       list-told = list-told;

@@ -11,6 +11,7 @@ use Rattle.laws.specs.Lists.{tab}
 use Rattle.laws.specs.Distinct.{Distinct, more}
 use Rattle.words.specs.Words.{bitOf}
 use Rattle.keys.specs.Keys.{rowOf, keyOf, rowsIn}
+use Rattle.keys.specs.TwoWords.{joined, firstWord, secondWord}
 use Rattle.tables.specs.declared.Catalogue.{Catalogue}
 use Rattle.tables.specs.Catalogues.{firstCell, touch, touchingBelow, rowStart, rowsBefore, total}
 use Rattle.tables.specs.Checks.{Lawful, sizeFault, badScheme, countFault, tableFault, tablesFault, shapeFault, misstored, storedFault, catalogueFault}
@@ -37,13 +38,13 @@ idle = record { budget = 0; row = [] }
 
 -- Whatever the stream is asked for.
 module _ (cat : Catalogue) (cells : List ℕ) (asked : Asked) where
-  open-refuses : (begin : List ℕ → List ℕ → List ℕ → Opened) (step : ℕ → State → List ℕ → Called)
-      → ((k l r : List ℕ) → begin k l r .refusal ≡ 0 → ⊥) → Lawful cat (length cells) → Askable cat asked → Demand1 cat cells asked begin step → ⊥
-  open-refuses begin step h L y d = let one : List ℕ = 0 ∷ [] in h one one one (d .opens one one one .none .1 (L, y, λ n. omega arith))
+  open-refuses : (begin : List ℕ → List ℕ → List ℕ → List ℕ → Opened) (step : ℕ → State → List ℕ → Called)
+      → ((k u l r : List ℕ) → begin k u l r .refusal ≡ 0 → ⊥) → Lawful cat (length cells) → Askable cat asked → Demand1 cat cells asked begin step → ⊥
+  open-refuses begin step h L y d = let one : List ℕ = 0 ∷ [] in h one one one one (d .opens one one one one .none .1 (L, y, λ n. omega arith))
 
   -- A stream that has handed out all that it found: its call says *finished*.
   drained : State
-  drained = stateFor asked (0 ∷ []) (0 ∷ []) (0 ∷ []) (min 1 (total cat)) (min 1 (total cat)) (total cat)
+  drained = stateFor asked (0 ∷ []) (0 ∷ []) (0 ∷ []) (0 ∷ []) (min 1 (total cat)) (min 1 (total cat)) (total cat)
 
   drained-fits : Askable cat asked → Fit cat drained
   unfolding drained
@@ -58,7 +59,7 @@ module _ (cat : Catalogue) (cells : List ℕ) (asked : Asked) where
         asked = y;
       }
 
-  call-refuses : (begin : List ℕ → List ℕ → List ℕ → Opened) (step : ℕ → State → List ℕ → Called)
+  call-refuses : (begin : List ℕ → List ℕ → List ℕ → List ℕ → Opened) (step : ℕ → State → List ℕ → Called)
       → ((b : ℕ) (p : State) (row : List ℕ) → (r : ℕ) × (step b p row .says ≡ refused r)) → Lawful cat (length cells) → Askable cat asked
       → Demand1 cat cells asked begin step → ⊥
   unfolding drained
@@ -132,7 +133,7 @@ module _ (cat : Catalogue) (cells : List ℕ) (asked : Asked) where
 pub sample-demands : Demand2 three threeCells everySet (call three threeCells) (first 4 .after) × Demand3 three threeCells everySet
     (call three threeCells) 4 (first 4 .after)
 unfolding first
-sample-demands = demands three threeCells everySet (replicate 4 0) (replicate 4 0) (replicate 4 0) (open-says .0)
+sample-demands = demands three threeCells everySet (replicate 4 0) (replicate 4 0) (replicate 4 0) (replicate 4 0) (open-says .0)
 
 -- On its tables the rule has found one set by the first trial, ..
 first-found : length (listMoves (worldOf three threeCells) everySet 2 (listOpen (worldOf three threeCells) everySet) .sets) ≡ 1
@@ -150,7 +151,7 @@ twoCalls = record { budget = 0; row = 0 ∷ 0 ∷ 0 ∷ [] } ∷ record { budget
 
 rushed-made : (all : Store) → (made (runOf (rushes all (call three threeCells)) twoCalls (first 4 .after)) ≡ 2)
     × (endedOf (rushes all (call three threeCells)) twoCalls (first 4 .after) .store ≡ all)
-unfolding sum handed runOf endedOf call callFault work unfit dueOr handOut trialOn offered placed answerOf storeAfter added Store.named searchOf Store.walk linkOf three threeCells first openingFor openFault begun catalogueFault shapeFault storedFault misstored touchingBelow touch sizeFault tablesFault tableFault badScheme countFault firstCell rowStart rowsBefore named missing beyond rowsIn rowOf keyOf filed bitOf ones touchesIn fitsIn sharing matching same trial start piece joins membersBelow dropped stays tab extension grow walk rowTest near agrees absent member rowsBelow rowsTo alone any all padded codeBelow gives
+unfolding joined firstWord secondWord sum handed runOf endedOf call callFault work unfit dueOr handOut trialOn offered placed answerOf storeAfter added Store.named searchOf Store.walk linkOf three threeCells first openingFor openFault begun catalogueFault shapeFault storedFault misstored touchingBelow touch sizeFault tablesFault tableFault badScheme countFault firstCell rowStart rowsBefore named missing beyond rowsIn rowOf keyOf filed bitOf ones touchesIn fitsIn sharing matching same trial start piece joins membersBelow dropped stays tab extension grow walk rowTest near agrees absent member rowsBelow rowsTo alone any all padded codeBelow gives
 rushed-made all = (refl, refl)
 
 pub rushed : Rushed

@@ -17,8 +17,8 @@ module _ (cat : Catalogue) (cells : List ℕ) (s : Place) where
   pub holding-sets : HoldingSets cat cells s
   holding-sets =
       record {
-        sets = λ k l r e gs f.
-            let d = demands cat cells (everyWith s) k l r e .0 in
+        sets = λ k u l r e gs f.
+            let d = demands cat cells (everyWith s) k u l r e .0 in
             record {
               once = d .once gs;
               exactly = λ T. (
@@ -29,11 +29,11 @@ module _ (cat : Catalogue) (cells : List ℕ) (s : Place) where
                     subst (λ (X : List ℕ). Maximal (worldOf cat cells) X × (at X (s .table) ≡ s .row)) q x,
               );
             };
-        among = λ k l r k′ l′ r′ e e′ gs gs′ f f′ key.
-            let d = demands cat cells (everyWith s) k l r e .0 in
-            let b = demands cat cells everySet k′ l′ r′ e′ .0 in
-            let held = handed (runOf (call cat cells) gs (openingHolding cat cells s k l r .after)) in
-            let every = handed (runOf (call cat cells) gs′ (opening cat cells k′ l′ r′ .after)) in (
+        among = λ k u l r k′ u′ l′ r′ e e′ gs gs′ f f′ key.
+            let d = demands cat cells (everyWith s) k u l r e .0 in
+            let b = demands cat cells everySet k′ u′ l′ r′ e′ .0 in
+            let held = handed (runOf (call cat cells) gs (openingHolding cat cells s k u l r .after)) in
+            let every = handed (runOf (call cat cells) gs′ (opening cat cells k′ u′ l′ r′ .after)) in (
               λ m.
                   let (U, x, z) = d .only gs key m in
                   let q : U ≡ setOf cat key = sym (d .named U (x .0)) ∙ ap (setOf cat) (sym z) in

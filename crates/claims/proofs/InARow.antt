@@ -29,11 +29,11 @@ module _ (cat : Catalogue) (cells : List ℕ) where
   pub in-row-ran : {q : State} {gs : List Given} {l : List Called} {p : State} → InRow cat cells q gs l p → Ran q gs l p
   unfolding runOf endedOf
   in-row-ran none = record { answers = refl; state = refl }
-  in-row-ran (stepped s keys left right b row r ks ls rs w e i) =
-      ran-more (stateOf s keys left right) b row (calledOf r ks ls rs w) _ _ _ e (in-row-ran i)
-  in-row-ran (nexted s keys left right b row r s′ ks ls rs w e i) =
-      ran-more (stateOf s keys left right) b row (calledOf (withRecord r s′) ks ls rs w) _ _ _ e (in-row-ran i)
-  in-row-ran (stepped-holding s keys left right b row r ks ls rs w e i) =
-      ran-more (holdingStateOf s keys left right) b row (calledHolding r ks ls rs w) _ _ _ e (in-row-ran i)
-  in-row-ran (nexted-holding s keys left right b row r s′ ks ls rs w e i) =
-      ran-more (holdingStateOf s keys left right) b row (calledHolding (withHolding r s′) ks ls rs w) _ _ _ e (in-row-ran i)
+  in-row-ran (stepped s low high left right b row r ks hs ls rs w e i) =
+      ran-more (stateOf s low high left right) b row (calledOf r ks hs ls rs w) _ _ _ e (in-row-ran i)
+  in-row-ran (nexted s low high left right b row r s′ ks hs ls rs w e i) =
+      ran-more (stateOf s low high left right) b row (calledOf (withRecord r s′) ks hs ls rs w) _ _ _ e (in-row-ran i)
+  in-row-ran (stepped-holding s low high left right b row r ks hs ls rs w e i) =
+      ran-more (holdingStateOf s low high left right) b row (calledHolding r ks hs ls rs w) _ _ _ e (in-row-ran i)
+  in-row-ran (nexted-holding s low high left right b row r s′ ks hs ls rs w e i) =
+      ran-more (holdingStateOf s low high left right) b row (calledHolding (withHolding r s′) ks hs ls rs w) _ _ _ e (in-row-ran i)

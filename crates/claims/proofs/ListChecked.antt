@@ -17,10 +17,12 @@ use Rattle.disjunction.specs.Rule.{rows}
 use Rattle.disjunction.proofs.KeepingLaws.{none-jcc}
 use Rattle.rows.specs.World.{worldOf}
 use Rattle.rows.proofs.WorldLaws.{rows-total}
+use Rattle.keys.specs.Keys.{bitsPerRow, keyOf}
+use Rattle.keys.specs.TwoWords.{keyWith}
 use Rattle.hub.specs.declared.ListVerdict.{ListVerdict}
 use Rattle.hub.specs.declared.ListVerdict.the-variants.{Right, Entry, Missing, Refused}
-use Rattle.hub.specs.Verdicts.{verdict}
-use Rattle.hub.specs.Promises.{wordSets, answerOf, checked, ChecksList, SoundKeys, RightKeys, FirstOutKey}
+use Rattle.hub.specs.Verdicts.{Verdict, right, entry, missing, verdict}
+use Rattle.hub.specs.Promises.{listedKeys, wordSets, answerOf, checked, ChecksList, SoundKeys, RightKeys, FirstOutKey}
 use Rattle.hub.proofs.KeyVerdicts.{keys-right, keys-entry, keys-missing, missing-key, never-refused}
 use Rattle.hub.proofs.JudgingLaws.{checked-refused, checked-lawful, none-missing}
 use Rattle.claims.specs.ListChecks.{ListExact}
@@ -60,9 +62,9 @@ module _ (cat : Catalogue) (cells words : List ℕ) where
       by e (yes z) = absurd (never-refused cat cells (length cells) (fault-lawful cat (length cells) z) words (verdict (worldOf cat cells) (wordSets cat words)) k (sym (checked-lawful cat cells words z) ∙ e))
       by e (no h) = let f = checked-refused cat cells words fault refl h in let q : fault ≡ k = cc in (λ z. h (q ∙ z), q)
 
-  missing-line : (k : ℕ) → (checked cat cells words ≡ Missing k) ↔ (Lawful cat (length cells) × (SoundKeys cat cells words × FirstOutKey cat cells words k))
+  missing-line : (k : ℕ) → (checked cat cells words ≡ Missing (keyWith k)) ↔ (Lawful cat (length cells) × (SoundKeys cat cells words × FirstOutKey cat cells words k))
   missing-line k =
-      line (Missing k) (SoundKeys cat cells words × FirstOutKey cat cells words k) (λ j e. let z : _≡_ {A = ℕ} 0 1 = cc in omega arith)
+      line (Missing (keyWith k)) (SoundKeys cat cells words × FirstOutKey cat cells words k) (λ j e. let z : _≡_ {A = ℕ} 0 1 = cc in omega arith)
       (λ L. keys-missing cat cells (length cells) L words k)
 
   -- Without rows there is no maximal set.
@@ -92,17 +94,24 @@ module _ (cat : Catalogue) (cells words : List ℕ) where
         entry = λ i. line (Entry i) _ (λ k e. let z : _≡_ {A = ℕ} 0 1 = cc in omega arith) (λ L. keys-entry cat cells (length cells) L words i);
         missing = λ k. let (f, g) = missing-line k in (λ e. let (L, p) = f e in (L, p .0, p .1), λ (L, s, x). g (L, (s, x)));
         missing-set = λ k e.
-            let (L, q) = behind (Missing k) (λ j f. let z : _≡_ {A = ℕ} 0 1 = cc in omega arith) e in missing-key cat cells (length cells) L words k q;
+            let (L, q) = behind (Missing (keyWith k)) (λ j f. let z : _≡_ {A = ℕ} 0 1 = cc in omega arith) e in missing-key cat cells (length cells) L words k q;
         missing-first = λ e L h. before _ L (ap (λ (l : List ℕ). answerOf (verdict (worldOf cat cells) (wordSets cat l))) e ∙ none-missing cat cells (length cells) L h);
-        no-other = by (checked cat cells words);
+        no-other = by (ℕ-discrete fault 0);
       }
     where
-      by : (r : ListVerdict) → ((k : ℕ) × (r ≡ Refused k)) ⊎ (r ≡ Right) ⊎ ((i : ℕ) × (r ≡ Entry i)) ⊎ ((k : ℕ) × (r ≡ Missing k))
-      by (Refused k) = inl (k, refl)
-      by Right = inr (inl refl)
-      by (Entry i) = inr (inr (inl (i, refl)))
-      by (Missing k) = inr (inr (inr (k, refl)))
+      One : ListVerdict → Type 0
+      One r = ((k : ℕ) × (r ≡ Refused k)) ⊎ (r ≡ Right) ⊎ ((i : ℕ) × (r ≡ Entry i)) ⊎ ((k : ℕ) × (r ≡ Missing (keyWith k)))
 
-  -- Whatever meets the promise of the public call.
-  pub list-exact : (r : ListVerdict) → ChecksList cat cells words r → ListExact cat cells words r
-  list-exact r e = subst (ListExact cat cells words) (sym e) checked-exact
+      told : (v : Verdict) → One (answerOf v)
+      told right = inr (inl refl)
+      told (entry i) = inr (inr (inl (i, refl)))
+      told (missing T) = inr (inr (inr (keyOf bitsPerRow T, refl)))
+
+      by : Dec (fault ≡ 0) → One (checked cat cells words)
+      by (yes z) = subst One (sym (checked-lawful cat cells words z)) (told (verdict (worldOf cat cells) (wordSets cat words)))
+      by (no h) = inl (fault, checked-refused cat cells words fault refl h)
+
+-- Whatever meets the promise of the public call.
+pub list-exact : (cat : Catalogue) (cells low high : List ℕ) (r : ListVerdict) → ChecksList cat cells low high r
+    → ListExact cat cells (listedKeys low high) r
+list-exact cat cells low high r e = subst (ListExact cat cells (listedKeys low high)) (sym e) (checked-exact cat cells (listedKeys low high))

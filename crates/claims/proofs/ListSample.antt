@@ -17,6 +17,7 @@ use Rattle.disjunction.specs.Keeping.{sameDec, sets-discrete, decMemᴰ, listOp
 use Rattle.disjunction.specs.Standing.{sameSet, valid, givesBack, standing}
 use Rattle.rows.specs.World.{touchesIn, fitsIn}
 use Rattle.rows.specs.Named.{missing, beyond, named}
+use Rattle.keys.specs.TwoWords.{joined, firstWord, secondWord, numberIn, keyWith}
 use Rattle.hub.specs.declared.ListVerdict.{ListVerdict}
 use Rattle.hub.specs.declared.ListVerdict.the-variants.{Right, Entry, Missing}
 use Rattle.hub.specs.Verdicts.{listed, seek, spoilt, tried, triedOn, reached, verdict}
@@ -26,14 +27,17 @@ use Rattle.hub.specs.Promises.{wordSet, checked}
 abbrev asks : List ℕ → ListVerdict
 asks keys = checked three threeCells keys
 
--- Right in any order; a repeat, a set that is not maximal, 0 and a table that is not there; one left out; and the empty list.
-pub sample-lists : (asks (65793 ∷ (131074 ∷ (512 ∷ []))) ≡ Right)
-    × (asks (512 ∷ (65793 ∷ (131074 ∷ []))) ≡ Right)
-    × (asks (65793 ∷ (131074 ∷ (65793 ∷ (512 ∷ [])))) ≡ Entry 2)
-    × (asks (65793 ∷ (2 ∷ (512 ∷ []))) ≡ Entry 1)
+-- Right in any order; a repeat, a set that is not maximal, 0 and a table that is not there; one left out; the empty list; and row 1 of table 0 with a spare
+-- bit of the first word, and with one of the second.
+pub sample-lists : (asks (16781313 ∷ (33554434 ∷ (8192 ∷ []))) ≡ Right)
+    × (asks (8192 ∷ (16781313 ∷ (33554434 ∷ []))) ≡ Right)
+    × (asks (16781313 ∷ (33554434 ∷ (16781313 ∷ (8192 ∷ [])))) ≡ Entry 2)
+    × (asks (16781313 ∷ (2 ∷ (8192 ∷ []))) ≡ Entry 1)
     × (asks (0 ∷ []) ≡ Entry 0)
-    × (asks (16777216 ∷ []) ≡ Entry 0)
-    × (asks (65793 ∷ (512 ∷ [])) ≡ Missing 131074)
-    × (asks [] ≡ Missing 65793)
-unfolding three threeCells checked verdict lowestBelow spoilt standing valid givesBack sameSet isYes sets-discrete sameDec listed decMemᴰ seek tried triedOn reached listOpen wordSet named missing beyond catalogueFault shapeFault storedFault misstored touchingBelow touch sizeFault tablesFault tableFault badScheme countFault firstCell rowStart rowsBefore touchesIn fitsIn sharing matching same bitOf ones rowOf keyOf rowsIn tab extension grow walk rowTest near agrees absent member rowsBelow rowsTo alone joins membersBelow piece start stays dropped trial any all ℕ-discrete
-sample-lists = (refl, refl, refl, refl, refl, refl, refl, refl)
+    × (asks (68719476736 ∷ []) ≡ Entry 0)
+    × (asks (16781313 ∷ (8192 ∷ [])) ≡ Missing (keyWith 33554434))
+    × (asks [] ≡ Missing (keyWith 16781313))
+    × (asks (numberIn 1152921504606846977 0 ∷ []) ≡ Entry 0)
+    × (asks (numberIn 1 68719476736 ∷ []) ≡ Entry 0)
+unfolding joined firstWord secondWord three threeCells checked verdict lowestBelow spoilt standing valid givesBack sameSet isYes sets-discrete sameDec listed decMemᴰ seek tried triedOn reached listOpen wordSet named missing beyond catalogueFault shapeFault storedFault misstored touchingBelow touch sizeFault tablesFault tableFault badScheme countFault firstCell rowStart rowsBefore touchesIn fitsIn sharing matching same bitOf ones rowOf keyOf rowsIn tab extension grow walk rowTest near agrees absent member rowsBelow rowsTo alone joins membersBelow piece start stays dropped trial any all ℕ-discrete
+sample-lists = (refl, refl, refl, refl, refl, refl, refl, refl, refl, refl)

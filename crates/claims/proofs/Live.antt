@@ -182,11 +182,11 @@ module _ (cat : Catalogue) (cells : List ℕ) where
               able = g .able;
             }
           where
-            at-end : (j : ℕ) → j ≡ q .store .found → getD (added (q .store) key p s .keys) j 0 ≡ keyOf bitsPerRow (getD (g .sets ++ (U ∷ [])) j [])
+            at-end : (j : ℕ) → j ≡ q .store .found → keyAt (raised q (added (q .store) key p s)) j ≡ keyOf bitsPerRow (getD (g .sets ++ (U ∷ [])) j [])
             at-end j x = rw x (added-cells (q .store) key p s l h .new-key
                 ∙ ap (keyOf bitsPerRow) (sym (getD-at (g .sets) U [] [] (q .store .found) (g .long))))
 
-            before : (j : ℕ) → j < q .store .found → getD (added (q .store) key p s .keys) j 0 ≡ keyOf bitsPerRow (getD (g .sets ++ (U ∷ [])) j [])
+            before : (j : ℕ) → j < q .store .found → keyAt (raised q (added (q .store) key p s)) j ≡ keyOf bitsPerRow (getD (g .sets ++ (U ∷ [])) j [])
             before j x =
                 added-cells (q .store) key p s l h .old-key j x
                 ∙ g .keyed j x

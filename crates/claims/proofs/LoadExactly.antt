@@ -5,15 +5,16 @@ use native.Mathlib.Decide.{decLt, ℕ-discrete}
 use native.Mathlib.Omega.{arith}
 use mathlib.Core.Path.{_≡_, refl, ap, ap₂, subst}
 use mathlib.Core.Logic.{_⊎_, inl, inr}
-use mathlib.Core.Bool.{Bool, true, false}
+use mathlib.Core.Bool.{Bool, true, false, _||_}
 use mathlib.Core.List.{List}
 use lib.ListN.{length}
 use lib.Count.{ones}
 use Rattle.numbers.specs.declared.Reading.{Reading}
 use Rattle.numbers.specs.declared.Reading.the-variants.{Number, NumberFault}
 use Rattle.numbers.specs.Numbers.{decode}
-use Rattle.tables.specs.Sizes.{mostAttributes, mostTables, mostRows, mostCells, version}
-use Rattle.tables.specs.Rows.{below}
+use Rattle.tables.specs.Sizes.{mostAttributes, mostTables, mostCells, versionOne, versionTwo}
+use Rattle.tables.specs.Versions.{mostRowsIn}
+use Rattle.tables.specs.Rows.{below, allNull}
 use Rattle.loader.specs.declared.Fault.{Fault}
 use Rattle.loader.specs.declared.Verdict.{Verdict}
 use Rattle.loader.specs.declared.Verdict.the-variants.{Good, Refused}
@@ -22,7 +23,7 @@ use Rattle.loader.specs.Load.{scanOf}
 use Rattle.verdicts.specs.Number.{doorNumber}
 use Rattle.door.specs.Door.{checkOf}
 use Rattle.door.proofs.DoorLaws.{door-tells}
-use Rattle.claims.specs.LoadRefusals.{Before, none, rowAt, Due, theVersion, attributes, tables, table, rowCount, rows, cells, NumberDue, version-is, m-is, n-is, scheme-is, count-is, row-begins, cell-is, row-rises, rows-end, Meets, number, other-version, m-out, n-out, bad-scheme, many-rows, many-cells, not-rising, surplus, Reaches, start, on, FirstFault, ReadWhole, LoadExact, CheckExact}
+use Rattle.claims.specs.LoadRefusals.{Before, none, rowAt, Due, theVersion, attributes, tables, table, rowCount, rows, cells, longer, NumberDue, Valued, version-is, m-is, n-is, scheme-is, count-is, row-begins, cell-is, row-rises, rows-end, Meets, number, other-version, m-out, n-out, bad-scheme, many-rows, many-cells, all-null, not-rising, surplus, no-need, Reaches, start, on, FirstFault, ReadWhole, LoadExact, CheckExact}
 use Rattle.claims.proofs.NumberExactly.{number-exact}
 use Rattle.claims.proofs.LoadSays.{fault-refused, whole-good}
 
@@ -43,63 +44,83 @@ module _ (s : List ℕ) (room : ℕ) where
       by (Number x j) e = go x j e
       by (NumberFault f c) e = met r (number n e)
 
-  module _ (m k u x : ℕ) where
-    through-cells : (c : ℕ) (b : Before) (p w : ℕ) → ((j : ℕ) → Reaches s room (cells m k u x c b p 0) j → Ended)
-        → (i : ℕ) → Reaches s room (cells m k u x c b p w) i → Ended
+  module _ (v m k u : ℕ) (l : Bool) (x : ℕ) where
+    through-cells : (c : ℕ) (b : Before) (p w : ℕ) → ((j : ℕ) → Reaches s room (cells v m k u l x c b p 0) j → Ended)
+        → (i : ℕ) → Reaches s room (cells v m k u l x c b p w) i → Ended
     through-cells c b p zero go i r = go i r
     through-cells c b p (suc w) go i r =
-        read (cells m k u x c b p (suc w)) i tt r (λ v j e. through-cells c b p w go j (on r (cell-is e)))
+        read (cells v m k u l x c b p (suc w)) i tt r (λ d j e. through-cells c b p w go j (on r (cell-is e)))
 
-    row-end : (c : ℕ) (b : Before) (p : ℕ) → ((j : ℕ) → Reaches s room (rows m k u x c (rowAt p)) j → Ended)
-        → (i : ℕ) → Reaches s room (cells m k u x c b p 0) i → Ended
-    row-end c none p go i r = go i (on r (row-rises tt))
-    row-end c (rowAt q) p go i r = by (below (codes (ones x) s q) (codes (ones x) s p)) refl
+    -- Behind the last cell of a row that has a value, or may be without one.
+    row-order : (c : ℕ) (b : Before) (p : ℕ) → Valued s v (ones x) p → ((j : ℕ) → Reaches s room (rows v m k u l x c (rowAt p)) j → Ended)
+        → (i : ℕ) → Reaches s room (cells v m k u l x c b p 0) i → Ended
+    row-order c none p f go i r = go i (on r (row-rises f tt))
+    row-order c (rowAt q) p f go i r = by (below (codes (ones x) s q) (codes (ones x) s p)) refl
       where
         by : (t : Bool) → below (codes (ones x) s q) (codes (ones x) s p) ≡ t → Ended
-        by true h = go i (on r (row-rises h))
-        by false h = met r (not-rising h)
+        by true h = go i (on r (row-rises f h))
+        by false h = met r (not-rising f h)
 
-    through-rows : (c : ℕ) (b : Before) → ((j : ℕ) → Reaches s room (table m k u) j → Ended) → (i : ℕ) → Reaches s room (rows m k u x c b) i → Ended
+    row-end : (c : ℕ) (b : Before) (p : ℕ) → ((j : ℕ) → Reaches s room (rows v m k u l x c (rowAt p)) j → Ended)
+        → (i : ℕ) → Reaches s room (cells v m k u l x c b p 0) i → Ended
+    row-end c b p go i r = by (allNull (codes (ones x) s p)) refl (ℕ-discrete v versionTwo)
+      where
+        by : (t : Bool) → allNull (codes (ones x) s p) ≡ t → Dec (v ≡ versionTwo) → Ended
+        by false h d = row-order c b p (λ e. h) go i r
+        by true h (yes e) = met (subst (λ (w : ℕ). Reaches s room (cells w m k u l x c b p 0) i) e r) (all-null h)
+        by true h (no e) = row-order c b p (λ z. absurd (e z)) go i r
+
+    through-rows : (c : ℕ) (b : Before) → ((j : ℕ) → Reaches s room (table v m k u l) j → Ended) → (i : ℕ) → Reaches s room (rows v m k u l x c b) i → Ended
     through-rows zero b go i r = go i (on r rows-end)
     through-rows (suc c) b go i r =
         through-cells c b i (ones x) (row-end c b i (through-rows c (rowAt i) go)) i (on r row-begins)
 
-  through-count : (m k u x c i j : ℕ) → decode s i ≡ Number c j → ((v q : ℕ) → Reaches s room (table m k v) q → Ended)
-      → Reaches s room (rowCount m k u x) i → Ended
-  through-count m k u x c i j e go r =
-      elim (decLt mostRows c) [
+  through-count : (v m k u : ℕ) (l : Bool) (x c i j : ℕ) → decode s i ≡ Number c j → ((w : ℕ) (g : Bool) (q : ℕ) → Reaches s room (table v m k w g) q → Ended)
+      → Reaches s room (rowCount v m k u l x) i → Ended
+  through-count v m k u l x c i j e go r =
+      elim (decLt (mostRowsIn v) c) [
         | yes h ↦ met r (many-rows e h)
         | no h ↦ elim (decLt mostCells (u + c * ones x)) [
           | yes a ↦ met r (many-cells e (omega arith) (inl a))
           | no a ↦ elim (decLt room (u + c * ones x)) [
             | yes b ↦ met r (many-cells e (omega arith) (inr b))
             | no b ↦
-                through-rows m k (u + c * ones x) x c none (go (u + c * ones x)) j (on r (count-is e (omega arith) (omega arith) (omega arith)))
+                through-rows v m k (u + c * ones x) (longer c l) x c none (go (u + c * ones x) (longer c l)) j
+                (on r (count-is e (omega arith) (omega arith) (omega arith)))
           ]
         ]
       ]
 
-  through-scheme : (m k u x i j : ℕ) → decode s i ≡ Number x j → ((v q : ℕ) → Reaches s room (table m k v) q → Ended)
-      → Reaches s room (table m (suc k) u) i → Ended
-  through-scheme m k u x i j e go r =
+  through-scheme : (v m k u : ℕ) (l : Bool) (x i j : ℕ) → decode s i ≡ Number x j → ((w : ℕ) (g : Bool) (q : ℕ) → Reaches s room (table v m k w g) q → Ended)
+      → Reaches s room (table v m (suc k) u l) i → Ended
+  through-scheme v m k u l x i j e go r =
       elim (decLt 0 x) [
         | no h ↦ met r (bad-scheme e (inl (omega arith)))
         | yes h ↦ elim (decLt x (2 ^ m)) [
-          | no l ↦ met r (bad-scheme e (inr (omega arith)))
-          | yes l ↦
-              let q = on r (scheme-is e h l) in
-              read (rowCount m k u x) j tt q (λ c n f. through-count m k u x c j n f go q)
+          | no b ↦ met r (bad-scheme e (inr (omega arith)))
+          | yes b ↦
+              let q = on r (scheme-is e h b) in
+              read (rowCount v m k u l x) j tt q (λ c n f. through-count v m k u l x c j n f go q)
         ]
       ]
 
-  through-tables : (m k u i : ℕ) → Reaches s room (table m k u) i → Ended
-  through-tables m zero u i r =
+  -- Behind the last table, where nothing follows: version 2 has to be needed.
+  whole : (v m u : ℕ) (l : Bool) (i : ℕ) → length s ≤ i → Reaches s room (table v m 0 u l) i → Ended
+  whole v m u true i h r = inr (v, m, u, true, i, r, h, λ e. refl)
+  whole v m u false i h r =
+      elim (ℕ-discrete v versionTwo) [
+        | yes e ↦ met (subst (λ (x : ℕ). Reaches s room (table x m 0 u false) i) e r) (no-need h)
+        | no e ↦ inr (v, m, u, false, i, r, h, λ z. absurd (e z))
+      ]
+
+  through-tables : (v m k u : ℕ) (l : Bool) (i : ℕ) → Reaches s room (table v m k u l) i → Ended
+  through-tables v m zero u l i r =
       elim (decLt i (length s)) [
         | yes h ↦ met r (surplus h)
-        | no h ↦ inr (m, u, i, r, omega arith)
+        | no h ↦ whole v m u l i (omega arith) r
       ]
-  through-tables m (suc k) u i r =
-      read (table m (suc k) u) i tt r (λ x j e. through-scheme m k u x i j e (through-tables m k) r)
+  through-tables v m (suc k) u l i r =
+      read (table v m (suc k) u l) i tt r (λ x j e. through-scheme v m k u l x i j e (through-tables v m k) r)
 
   -- A number out of its range, or in it.
   ranged : (low high x : ℕ) → ((x < low) ⊎ (high < x) → Ended) → (low ≤ x → x ≤ high → Ended) → Ended
@@ -112,20 +133,21 @@ module _ (s : List ℕ) (room : ℕ) where
         ]
       ]
 
-  through-size : (m i : ℕ) → Reaches s room (tables m) i → Ended
-  through-size m i r =
-      read (tables m) i tt r (λ n j e. ranged 1 mostTables n (λ h. met r (n-out e h)) (λ l h. through-tables m n 0 j (on r (n-is e l h))))
+  through-size : (v m i : ℕ) → Reaches s room (tables v m) i → Ended
+  through-size v m i r =
+      read (tables v m) i tt r (λ n j e. ranged 1 mostTables n (λ h. met r (n-out e h)) (λ l h. through-tables v m n 0 false j (on r (n-is e l h))))
 
-  through-head : (i : ℕ) → Reaches s room attributes i → Ended
-  through-head i r =
-      read attributes i tt r (λ m j e. ranged 1 mostAttributes m (λ h. met r (m-out e h)) (λ l h. through-size m j (on r (m-is e l h))))
+  through-head : (v i : ℕ) → Reaches s room (attributes v) i → Ended
+  through-head v i r =
+      read (attributes v) i tt r (λ m j e. ranged 1 mostAttributes m (λ h. met r (m-out e h)) (λ l h. through-size v m j (on r (m-is e l h))))
 
   ended : Ended
-  ended = read theVersion 0 tt start (λ v j e. by v j e (ℕ-discrete v version))
+  ended = read theVersion 0 tt start (λ v j e. by v j e (ℕ-discrete v versionOne) (ℕ-discrete v versionTwo))
     where
-      by : (v j : ℕ) → decode s 0 ≡ Number v j → Dec (v ≡ version) → Ended
-      by v j e (no h) = met start (other-version e h)
-      by v j e (yes h) = through-head j (on start (version-is (rw h at e)))
+      by : (v j : ℕ) → decode s 0 ≡ Number v j → Dec (v ≡ versionOne) → Dec (v ≡ versionTwo) → Ended
+      by v j e (yes h) d = through-head v j (on start (version-is e (inl h)))
+      by v j e (no h) (yes g) = through-head v j (on start (version-is e (inr g)))
+      by v j e (no h) (no g) = met start (other-version e h g)
 
   -- ---- so each refusal is given exactly when
 
@@ -160,14 +182,16 @@ some-refusal s room (number {i = i} {f = f} {c = c} n e) = by (number-exact s i 
     by (inl h) = omega arith
     by (inr (inl h)) = omega arith
     by (inr (inr h)) = omega arith
-some-refusal s room (other-version e h) = omega arith
+some-refusal s room (other-version e h g) = omega arith
 some-refusal s room (m-out e h) = omega arith
 some-refusal s room (n-out e h) = omega arith
 some-refusal s room (bad-scheme e h) = omega arith
 some-refusal s room (many-rows e h) = omega arith
 some-refusal s room (many-cells e h a) = omega arith
-some-refusal s room (not-rising h) = omega arith
+some-refusal s room (all-null h) = omega arith
+some-refusal s room (not-rising g h) = omega arith
 some-refusal s room (surplus h) = omega arith
+some-refusal s room (no-need h) = omega arith
 
 module _ (s : List ℕ) where
   says-door : (v : Verdict) → scanOf s mostCells .verdict ≡ v → checkOf s ≡ doorNumber v

@@ -10,12 +10,14 @@ use lib.ListN.{length, getD, set}
 use lib.Seq.{getD-set-same}
 use Rattle.laws.proofs.TestLaws.{clash}
 use Rattle.keys.specs.Keys.{bitsPerRow, keyOf}
+use Rattle.keys.specs.TwoWords.{lowOf, highOf}
 use Rattle.tables.specs.declared.Catalogue.{Catalogue}
 use Rattle.tables.specs.Catalogues.{total}
 use Rattle.tables.specs.Checks.{Lawful}
 use Rattle.disjunction.specs.Asked.{Asked}
 use Rattle.rows.specs.Named.{named}
 use Rattle.store.specs.Store.{storeIn, roomIn, filed}
+use Rattle.store.proofs.StoreLaws as stores
 use Rattle.machine.specs.Machine.{State, keyAt, Trial, done, full, damaged, trialOn, Says, finished, working, refused, Called, answer, counted, takenOf, keyDue, unfit, callFault, unlessMet, paddedIn, work, call, firstGrown, openingFor}
 use Rattle.machine.specs.Runs.{Given, runOf, endedOf, moves}
 use Rattle.machine.proofs.WorkLaws.{handing, work-ends, work-hands, work-spent, work-trial, by-ways}
@@ -74,7 +76,7 @@ module _ (cat : Catalogue) (cells : List ℕ) (a : Asked) (L : Lawful cat (lengt
     copy-not e x = e (sym (k .next) ∙ x)
 
     copy-key : q .taken < q .store .found → keyDue r ≡ keyDue q
-    copy-key l = ap (keyAt r) (k .taken) ∙ k .store .keys (q .taken) l
+    copy-key l = ap (keyAt r) (k .taken) ∙ stores.copy-key (q .store) (r .store) (k .store) (q .taken) l
 
     alike : (t : Trial) → Sound cat cells a c q → (q .next ≡ total cat → ⊥) → trialOn cat cells q ≡ t → roomIn (q .store) ≤ roomIn (r .store)
         → Alike q r t (trialOn cat cells r)
@@ -251,20 +253,27 @@ module _ (cat : Catalogue) (cells : List ℕ) (asked : Asked) where
   first-cell : (k k' : List ℕ) (v : ℕ) → 0 < length k → 0 < length k' → (p : ℕ) → p < 1 → getD (set k' 0 v) p 0 ≡ getD (set k 0 v) p 0
   first-cell k k' v a b p l = let z : p ≡ 0 = omega arith in rw z (getD-set-same k' 0 v 0 b ∙ sym (getD-set-same k 0 v 0 a))
 
-  opening-copy : (k l r k' l' r' : List ℕ) → openingFor cat cells asked k l r .refusal ≡ 0 → openingFor cat cells asked k' l' r' .refusal ≡ 0
-      → Copy (openingFor cat cells asked k l r .after) (openingFor cat cells asked k' l' r' .after)
+  opening-copy : (k u l r k' u' l' r' : List ℕ) → openingFor cat cells asked k u l r .refusal ≡ 0 → openingFor cat cells asked k' u' l' r' .refusal ≡ 0
+      → Copy (openingFor cat cells asked k u l r .after) (openingFor cat cells asked k' u' l' r' .after)
   unfolding filed
-  opening-copy k l r k' l' r' e e' = by (eq-zero-or-pos (total cat)) (opens-iff cat cells asked k l r .0 e .2) (opens-iff cat cells asked k' l' r' .0 e' .2)
+  opening-copy k u l r k' u' l' r' e e' =
+      by (eq-zero-or-pos (total cat)) (opens-iff cat cells asked k u l r .0 e .2) (opens-iff cat cells asked k' u' l' r' .0 e' .2)
     where
-      by : (total cat ≡ 0) ⊎ (0 < total cat) → (0 < total cat → 0 < roomIn (storeIn k l r 0)) → (0 < total cat → 0 < roomIn (storeIn k' l' r' 0))
-          → Copy (openingFor cat cells asked k l r .after) (openingFor cat cells asked k' l' r' .after)
+      by : (total cat ≡ 0) ⊎ (0 < total cat) → (0 < total cat → 0 < roomIn (storeIn k u l r 0)) → (0 < total cat → 0 < roomIn (storeIn k' u' l' r' 0))
+          → Copy (openingFor cat cells asked k u l r .after) (openingFor cat cells asked k' u' l' r' .after)
       by (inl z) s s' =
           rw (
-            opening-empty cat cells asked k l r (sym (opening-says cat cells asked k l r) ∙ e) z,
-            opening-empty cat cells asked k' l' r' (sym (opening-says cat cells asked k' l' r') ∙ e') z,
+            opening-empty cat cells asked k u l r (sym (opening-says cat cells asked k u l r) ∙ e) z,
+            opening-empty cat cells asked k' u' l' r' (sym (opening-says cat cells asked k' u' l' r') ∙ e') z,
           )
           (record {
-            store = record { found = refl; keys = λ p b. absurd (omega arith); left = λ p b. absurd (omega arith); right = λ p b. absurd (omega arith) };
+            store = record {
+              found = refl;
+              low = λ p b. absurd (omega arith);
+              high = λ p b. absurd (omega arith);
+              left = λ p b. absurd (omega arith);
+              right = λ p b. absurd (omega arith);
+            };
             taken = refl;
             next = refl;
             asked = refl;
@@ -273,13 +282,14 @@ module _ (cat : Catalogue) (cells : List ℕ) (asked : Asked) where
           let m = s h in
           let n = s' h in
           rw (
-            opening-begun cat cells asked k l r (sym (opening-says cat cells asked k l r) ∙ e) h,
-            opening-begun cat cells asked k' l' r' (sym (opening-says cat cells asked k' l' r') ∙ e') h,
+            opening-begun cat cells asked k u l r (sym (opening-says cat cells asked k u l r) ∙ e) h,
+            opening-begun cat cells asked k' u' l' r' (sym (opening-says cat cells asked k' u' l' r') ∙ e') h,
           )
           (record {
             store = record {
               found = refl;
-              keys = first-cell k k' (keyOf bitsPerRow (firstGrown cat cells asked .rows)) (omega arith) (omega arith);
+              low = first-cell k k' (lowOf (keyOf bitsPerRow (firstGrown cat cells asked .rows))) (omega arith) (omega arith);
+              high = first-cell u u' (highOf (keyOf bitsPerRow (firstGrown cat cells asked .rows))) (omega arith) (omega arith);
               left = first-cell l l' 0 (omega arith) (omega arith);
               right = first-cell r r' 0 (omega arith) (omega arith);
             };
@@ -289,7 +299,7 @@ module _ (cat : Catalogue) (cells : List ℕ) (asked : Asked) where
           })
 
   pub longers : Longers cat cells asked
-  longers k l r k' l' r' e e' h =
+  longers k u l r k' u' l' r' e e' h =
       record {
         reached = λ gs. (paces gs .0, paces gs .1 .steps);
         goes = λ gs es m v y z hs. both gs es m v y z hs .0;
@@ -297,28 +307,28 @@ module _ (cat : Catalogue) (cells : List ℕ) (asked : Asked) where
       }
     where
       q : State
-      q = openingFor cat cells asked k l r .after
+      q = openingFor cat cells asked k u l r .after
 
       q' : State
-      q' = openingFor cat cells asked k' l' r' .after
+      q' = openingFor cat cells asked k' u' l' r' .after
 
       c : ℕ
-      c = roomIn (storeIn k l r 0)
+      c = roomIn (storeIn k u l r 0)
 
       c' : ℕ
-      c' = roomIn (storeIn k' l' r' 0)
+      c' = roomIn (storeIn k' u' l' r' 0)
 
       L : Lawful cat (length cells)
-      L = begins cat cells asked k l r e .0
+      L = begins cat cells asked k u l r e .0
 
       o : Begins cat cells asked c q
-      o = begins cat cells asked k l r e .1
+      o = begins cat cells asked k u l r e .1
 
       o' : Begins cat cells asked c' q'
-      o' = begins cat cells asked k' l' r' e' .1
+      o' = begins cat cells asked k' u' l' r' e' .1
 
       paces : (gs : List Given) → (es : List Given) × Paced cat cells asked L c c' gs q q' es
-      paces gs = run-pace cat cells asked L c c' gs q q' (o .sound) (o' .sound) (opening-copy k l r k' l' r' e e') (omega (arith, o .room, o' .room))
+      paces gs = run-pace cat cells asked L c c' gs q q' (o .sound) (o' .sound) (opening-copy k u l r k' u' l' r' e e') (omega (arith, o .room, o' .room))
 
       -- As many steps bring the long store to one state, by whatever calls.
       meet : (gs es : List Given) → made (run cat cells es q') ≡ made (run cat cells gs q) → ended cat cells (paces gs .0) q' ≡ ended cat cells es q'

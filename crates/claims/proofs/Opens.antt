@@ -7,7 +7,6 @@ use mathlib.Core.Bool.{true, false}
 use mathlib.Core.Logic.{_⊎_, inl, inr, ⊎-elim, _↔_}
 use mathlib.Core.List.{List, [], _∷_, List·Memᴰ·head}
 use lib.ListN.{length}
-use lib.Seq.{getD-set-same}
 use borrow.Author.Tests.{eq-eqb, ne-eqb}
 use Rattle.laws.proofs.TestLaws.{which}
 use Rattle.keys.specs.Keys.{bitsPerRow, keyOf}
@@ -23,7 +22,7 @@ use Rattle.disjunction.proofs.KeepingLaws.{Going, going-sought, going-open, non
 use Rattle.disjunction.proofs.AskedLaws.{sought-maximal, first-there, first-wanted}
 use Rattle.rows.proofs.WorldLaws.{world-symmetric, rows-total}
 use Rattle.store.specs.Store.{storeIn, roomIn, filed}
-use Rattle.store.proofs.StoreLaws.{started, room-filed}
+use Rattle.store.proofs.StoreLaws.{filed-key, started, room-filed}
 use Rattle.machine.proofs.CountLaws.{able-there}
 use Rattle.machine.specs.Machine.{State, stateFor, stray, Askable, openFault, firstGrown, openingFor}
 use Rattle.machine.proofs.RefusalLaws.{stray-iff, open-stray, open-full, open-free, open-clear, opening-says, opening-empty, opening-begun}
@@ -53,52 +52,52 @@ module _ (cat : Catalogue) (cells : List ℕ) (a : Asked) where
       subst (λ (n : ℕ). Going (W cat cells) a (opened n)) (rows-total cat cells)
       (going-open (W cat cells) a (world-symmetric cat cells) (firstFor (W cat cells) a) r w)
 
-module _ (cat : Catalogue) (cells : List ℕ) (a : Asked) (keys left right : List ℕ) where
+module _ (cat : Catalogue) (cells : List ℕ) (a : Asked) (low high left right : List ℕ) where
   abbrev fault : ℕ
-  fault = openFault cat (length cells) a (storeIn keys left right 0)
+  fault = openFault cat (length cells) a (storeIn low high left right 0)
 
   abbrev room : ℕ
-  room = roomIn (storeIn keys left right 0)
+  room = roomIn (storeIn low high left right 0)
 
-  says : openingFor cat cells a keys left right .refusal ≡ fault
-  says = opening-says cat cells a keys left right
+  says : openingFor cat cells a low high left right .refusal ≡ fault
+  says = opening-says cat cells a low high left right
 
   -- Open's refusal is the first one met, so what is said of that is said of open.
-  pub opens-iff : (openingFor cat cells a keys left right .refusal ≡ 0) ↔ (Lawful cat (length cells) × Askable cat a × (0 < total cat → 0 < room))
+  pub opens-iff : (openingFor cat cells a low high left right .refusal ≡ 0) ↔ (Lawful cat (length cells) × Askable cat a × (0 < total cat → 0 < room))
   opens-iff = (
-    λ e. open-clear cat (length cells) a (storeIn keys left right 0) (sym says ∙ e),
-    λ h. says ∙ open-free cat (length cells) a (storeIn keys left right 0) (h .0) (h .1) (h .2),
+    λ e. open-clear cat (length cells) a (storeIn low high left right 0) (sym says ∙ e),
+    λ h. says ∙ open-free cat (length cells) a (storeIn low high left right 0) (h .0) (h .1) (h .2),
   )
 
-  pub stray-met : Lawful cat (length cells) → stray cat a ≡ true → openingFor cat cells a keys left right .refusal ≡ 19
-  stray-met L e = says ∙ open-stray cat (length cells) a (storeIn keys left right 0) L e
+  pub stray-met : Lawful cat (length cells) → stray cat a ≡ true → openingFor cat cells a low high left right .refusal ≡ 19
+  stray-met L e = says ∙ open-stray cat (length cells) a (storeIn low high left right 0) L e
 
   -- 19 and 12, behind a lawful catalogue.
-  pub stray-met-iff : Lawful cat (length cells) → (openingFor cat cells a keys left right .refusal ≡ 19) ↔ (Askable cat a → ⊥)
+  pub stray-met-iff : Lawful cat (length cells) → (openingFor cat cells a low high left right .refusal ≡ 19) ↔ (Askable cat a → ⊥)
   stray-met-iff L = (
     λ e y. absurd (under (eq-zero-or-pos (total cat)) (eq-zero-or-pos room) y e),
     λ n. ⊎-elim (stray-met L)
         (λ f. absurd (n (stray-iff cat a .0 f))) (which (stray cat a)),
   )
     where
-      under : (total cat ≡ 0) ⊎ (0 < total cat) → (room ≡ 0) ⊎ (0 < room) → Askable cat a → openingFor cat cells a keys left right .refusal ≡ 19 → ⊥
+      under : (total cat ≡ 0) ⊎ (0 < total cat) → (room ≡ 0) ⊎ (0 < room) → Askable cat a → openingFor cat cells a low high left right .refusal ≡ 19 → ⊥
       under (inr h) (inl z) y e =
-          let d : _≡_ {A = ℕ} 12 19 = sym (says ∙ open-full cat (length cells) a (storeIn keys left right 0) L y h z) ∙ e in omega arith
+          let d : _≡_ {A = ℕ} 12 19 = sym (says ∙ open-full cat (length cells) a (storeIn low high left right 0) L y h z) ∙ e in omega arith
       under (inr h) (inr p) y e = let d : _≡_ {A = ℕ} 0 19 = sym (opens-iff .1 (L, y, λ n. p)) ∙ e in omega arith
       under (inl z) r y e = let d : _≡_ {A = ℕ} 0 19 = sym (opens-iff .1 (L, y, λ n. absurd (omega arith))) ∙ e in omega arith
 
   pub full-iff : Lawful cat (length cells)
-      → (openingFor cat cells a keys left right .refusal ≡ 12) ↔ (Askable cat a × (0 < total cat) × (room ≡ 0))
+      → (openingFor cat cells a low high left right .refusal ≡ 12) ↔ (Askable cat a × (0 < total cat) × (room ≡ 0))
   full-iff L = (
     λ e. by (which (stray cat a)) (eq-zero-or-pos (total cat)) (eq-zero-or-pos room) e,
-    λ h. says ∙ open-full cat (length cells) a (storeIn keys left right 0) L (h .0) (h .1) (h .2),
+    λ h. says ∙ open-full cat (length cells) a (storeIn low high left right 0) L (h .0) (h .1) (h .2),
   )
     where
-      free : Askable cat a → (0 < total cat → 0 < room) → openingFor cat cells a keys left right .refusal ≡ 12 → ⊥
+      free : Askable cat a → (0 < total cat → 0 < room) → openingFor cat cells a low high left right .refusal ≡ 12 → ⊥
       free y h e = let z : _≡_ {A = ℕ} 0 12 = sym (opens-iff .1 (L, y, h)) ∙ e in omega arith
 
       by : (stray cat a ≡ true) ⊎ (stray cat a ≡ false) → (total cat ≡ 0) ⊎ (0 < total cat) → (room ≡ 0) ⊎ (0 < room)
-          → openingFor cat cells a keys left right .refusal ≡ 12 → Askable cat a × (0 < total cat) × (room ≡ 0)
+          → openingFor cat cells a low high left right .refusal ≡ 12 → Askable cat a × (0 < total cat) × (room ≡ 0)
       by (inl s) n r e = let z : _≡_ {A = ℕ} 19 12 = sym (stray-met L s) ∙ e in absurd (omega arith)
       by (inr s) (inr h) (inl z) e = (stray-iff cat a .0 s, h, z)
       by (inr s) (inr h) (inr p) e = absurd (free (stray-iff cat a .0 s) (λ n. p) e)
@@ -106,7 +105,7 @@ module _ (cat : Catalogue) (cells : List ℕ) (a : Asked) (keys left right : Lis
 
   -- ---- the stream to begin with
 
-  begins-empty : Askable cat a → total cat ≡ 0 → Begins cat cells a room (stateFor a keys left right 0 0 0)
+  begins-empty : Askable cat a → total cat ≡ 0 → Begins cat cells a room (stateFor a low high left right 0 0 0)
   unfolding listOpen
   begins-empty y z =
       record {
@@ -122,7 +121,7 @@ module _ (cat : Catalogue) (cells : List ℕ) (a : Asked) (keys left right : Lis
     key = keyOf bitsPerRow (firstGrown cat cells a .rows)
 
     abbrev first : State
-    first = record { store = filed (storeIn keys left right 0) key; taken = 0; next = total cat; asked = a }
+    first = record { store = filed (storeIn low high left right 0) key; taken = 0; next = total cat; asked = a }
 
     first-live : Live cat cells a room first
     unfolding filed
@@ -131,11 +130,11 @@ module _ (cat : Catalogue) (cells : List ℕ) (a : Asked) (keys left right : Lis
         let x = g .maximal (firstGrown cat cells a .rows) (List·Memᴰ·head refl) in
         record {
           sets = firstGrown cat cells a .rows ∷ [];
-          tree = started bitsPerRow (cat .n) (storeIn keys left right 0) key refl p (maximal-named cat cells L (firstGrown cat cells a .rows) x .low);
+          tree = started bitsPerRow (cat .n) (storeIn low high left right 0) key refl p (maximal-named cat cells L (firstGrown cat cells a .rows) x .low);
           long = refl;
-          keyed = λ i l. let z : i ≡ 0 = omega arith in rw z (getD-set-same keys 0 key 0 (omega arith));
+          keyed = λ i l. let z : i ≡ 0 = omega arith in rw z (filed-key (storeIn low high left right 0) key p);
           going = g;
-          size = room-filed (storeIn keys left right 0) key;
+          size = room-filed (storeIn low high left right 0) key;
           within = omega arith;
           begun = λ z. refl;
           some = h;
@@ -151,20 +150,20 @@ module _ (cat : Catalogue) (cells : List ℕ) (a : Asked) (keys left right : Lis
           list = rw (ne-eqb (length (rows (W cat cells))) 0 (λ z. absurd (omega (arith, rows-total cat cells))), rows-total cat cells) refl;
           taken = refl;
           next = refl;
-          room = room-filed (storeIn keys left right 0) key;
+          room = room-filed (storeIn low high left right 0) key;
         }
 
-  pub begins : openingFor cat cells a keys left right .refusal ≡ 0
-      → Lawful cat (length cells) × Begins cat cells a room (openingFor cat cells a keys left right .after)
+  pub begins : openingFor cat cells a low high left right .refusal ≡ 0
+      → Lawful cat (length cells) × Begins cat cells a room (openingFor cat cells a low high left right .after)
   begins e = let (L, y, s) = opens-iff .0 e in (L, by L y s (eq-zero-or-pos (total cat)))
     where
       free : fault ≡ 0
       free = sym says ∙ e
 
       by : Lawful cat (length cells) → Askable cat a → (0 < total cat → 0 < room) → (total cat ≡ 0) ⊎ (0 < total cat)
-          → Begins cat cells a room (openingFor cat cells a keys left right .after)
-      by L y s (inl z) = rw (opening-empty cat cells a keys left right free z) (begins-empty y z)
-      by L y s (inr h) = rw (opening-begun cat cells a keys left right free h) (begins-live L y h (s h))
+          → Begins cat cells a room (openingFor cat cells a low high left right .after)
+      by L y s (inl z) = rw (opening-empty cat cells a low high left right free z) (begins-empty y z)
+      by L y s (inr h) = rw (opening-begun cat cells a low high left right free h) (begins-live L y h (s h))
 
 -- ---- 12
 
@@ -184,7 +183,7 @@ module _ (cat : Catalogue) (cells : List ℕ) (a : Asked) where
       none z ([], d, m, h) = absurd (omega arith)
 
   pub open-full-more : OpenFull cat cells a
-  open-full-more k l r L y = (
-    λ e. let (_, h, z) = full-iff cat cells a k l r L .0 e in (z, some-set y .0 h),
-    λ x. full-iff cat cells a k l r L .1 (y, some-set y .1 (x .1), x .0),
+  open-full-more k u l r L y = (
+    λ e. let (_, h, z) = full-iff cat cells a k u l r L .0 e in (z, some-set y .0 h),
+    λ x. full-iff cat cells a k u l r L .1 (y, some-set y .1 (x .1), x .0),
   )

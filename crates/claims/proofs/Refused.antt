@@ -6,7 +6,8 @@ use mathlib.Core.List.{List}
 use lib.ListN.{length, set, replicate}
 use lib.Dec.{ltb}
 use Rattle.tables.specs.declared.Catalogue.{Catalogue}
-use Rattle.tables.specs.Sizes.{mostAttributes, mostTables, version}
+use Rattle.tables.specs.Sizes.{mostAttributes, mostTables, versionOne, versionTwo}
+use Rattle.tables.specs.Versions.{needless}
 use Rattle.loader.specs.declared.Fault.{Fault}
 use Rattle.loader.specs.declared.Field.{Field}
 use Rattle.loader.specs.declared.Field.the-variants.{Value, FieldFault}
@@ -17,7 +18,7 @@ use Rattle.loader.specs.declared.Verdict.the-variants.{Good, Refused}
 use Rattle.loader.specs.declared.Loaded.{Loaded}
 use Rattle.loader.specs.Reading.{refusalAt}
 use Rattle.tables.specs.Catalogues.{filled, given, noTables}
-use Rattle.loader.specs.Load.{firstTable, refused, fieldAt, onField, tableAt, onEntry, tablesFrom, scanOf, tablesCodes, cellsAfter}
+use Rattle.loader.specs.Load.{firstTable, refused, fieldAt, onField, tableAt, onEntry, tablesEnd, tablesFrom, scanOf, tablesCodes, cellsAfter}
 use Rattle.disjunction.specs.Asked.{everySet}
 use Rattle.machine.specs.Machine.{Called, Opened}
 use Rattle.stream.specs.Promises.{stateOf}
@@ -37,28 +38,33 @@ on-field : (f : Field) (go : ℕ → ℕ → Loaded) → ((x n : ℕ) → Zeroes
 on-field (Value x n) go h = h x n
 on-field (FieldFault f) go h = refl
 
-tables-zero : (k : ℕ) (s : List ℕ) (room m n t used : ℕ) (xs cs : List ℕ) (i : ℕ) → Zeroes (tablesFrom k s room m n t used xs cs i)
+end-zero : (s : List ℕ) (v : ℕ) (cat : Catalogue) (i : ℕ) → Zeroes (tablesEnd s v cat i)
+unfolding tablesEnd
+end-zero s v cat i = by (ltb i (length s)) (needless v cat)
+  where
+    by : (a b : Bool) → Zeroes (cond a (refused (refusalAt 9 i 0)) (cond b (refused (refusalAt 20 0 0)) (record { verdict = Good; catalogue = filled cat })))
+    by true b = refl
+    by false true = refl
+    by false false = refl
+
+tables-zero : (k : ℕ) (s : List ℕ) (v room m n t used : ℕ) (xs cs : List ℕ) (i : ℕ) → Zeroes (tablesFrom k s v room m n t used xs cs i)
 unfolding tablesFrom
-tables-zero zero s room m n t used xs cs i = by (ltb i (length s))
+tables-zero zero s v room m n t used xs cs i = end-zero s v (given m n xs cs) i
+tables-zero (suc k) s v room m n t used xs cs i =
+    by (λ x c u e. tables-zero k s v room m n (t + 1) u (set xs t x) (set cs t c) e) (tableAt s v room m used i)
   where
-    by : (b : Bool) → Zeroes (cond b (refused (refusalAt 9 i 0)) (record { verdict = Good; catalogue = filled (given m n xs cs) }))
-    by true = refl
-    by false = refl
-tables-zero (suc k) s room m n t used xs cs i =
-    by (λ x c u e. tables-zero k s room m n (t + 1) u (set xs t x) (set cs t c) e) (tableAt s room m used i)
-  where
-    by : ((x c u e : ℕ) → Zeroes (tablesFrom k s room m n (t + 1) u (set xs t x) (set cs t c) e)) → (o : Entry)
-        → Zeroes (onEntry o (λ x c u e. tablesFrom k s room m n (t + 1) u (set xs t x) (set cs t c) e) refused)
+    by : ((x c u e : ℕ) → Zeroes (tablesFrom k s v room m n (t + 1) u (set xs t x) (set cs t c) e)) → (o : Entry)
+        → Zeroes (onEntry o (λ x c u e. tablesFrom k s v room m n (t + 1) u (set xs t x) (set cs t c) e) refused)
     by ih (Table x c u e) = ih x c u e
     by ih (TableFault f) = refl
 
 scan-zero : (s : List ℕ) (room : ℕ) → Zeroes (scanOf s room)
 unfolding scanOf
 scan-zero s room =
-    on-field (fieldAt s 0 version version 3) _ (λ v i.
+    on-field (fieldAt s 0 versionOne versionTwo 3) _ (λ v i.
     on-field (fieldAt s i 1 mostAttributes 4) _ (λ m j.
     on-field (fieldAt s j 1 mostTables 4) _ (λ n k.
-    tables-zero n s room m n 0 0 (replicate 8 0) (replicate 8 0) k)))
+    tables-zero n s v room m n 0 0 (replicate 8 0) (replicate 8 0) k)))
 
 pub scan-zeros : (s : List ℕ) (room : ℕ) (f : Fault) → scanOf s room .verdict ≡ Refused f → scanOf s room .catalogue ≡ noTables
 scan-zeros s room f e = subst (λ (v : Verdict). Zeroed v (scanOf s room .catalogue)) e (scan-zero s room)
@@ -71,12 +77,12 @@ unchanged =
         l .cells ∙ ap (λ (v : Verdict). cellsAfter v (tablesCodes (r .catalogue .n) s firstTable) lent) e,
       );
       write = λ cat cells lent after k w. w .bytes;
-      «open» = λ cat cells keys left right o ks ls rs e n.
-          let z = demand1 cat cells everySet .zeroed keys left right (λ f. n (ap (λ (x : Opened). x .refusal) e ∙ f)) .0 in
-          state-one everySet everySet (o .stream) (record { found = 0; taken = 0; «next_row» = 0 }) ks ls rs keys left right
+      «open» = λ cat cells low high left right o ks hs ls rs e n.
+          let z = demand1 cat cells everySet .zeroed low high left right (λ f. n (ap (λ (x : Opened). x .refusal) e ∙ f)) .0 in
+          state-one everySet everySet (o .stream) (record { found = 0; taken = 0; «next_row» = 0 }) ks hs ls rs low high left right
           (ap (λ (x : Opened). x .after) e ∙ z);
-      step = λ cat cells keys left right s b row r ks ls rs w e n.
-          let d = e ∙ demand1 cat cells everySet .refuses b (stateOf s keys left right) row n in
-          let (f, k, l, m) = state-one everySet everySet (r .stream) s ks ls rs keys left right (ap (λ (x : Called). x .after) d) in
-          (f, k, l, m, ap (λ (x : Called). x .row) d);
+      step = λ cat cells low high left right s b row r ks hs ls rs w e n.
+          let d = e ∙ demand1 cat cells everySet .refuses b (stateOf s low high left right) row n in
+          let (f, k, h, l, m) = state-one everySet everySet (r .stream) s ks hs ls rs low high left right (ap (λ (x : Called). x .after) d) in
+          (f, k, h, l, m, ap (λ (x : Called). x .row) d);
     }

@@ -7,7 +7,6 @@ use mathlib.Core.Path.{_≡_, refl, sym, ap, subst, _∙_}
 use mathlib.Core.Bool.{Bool, true, false, cond}
 use mathlib.Core.Logic.{_⊎_, inl, inr, ⊎-elim, _↔_}
 use mathlib.Core.List.{List}
-use lib.ListN.{getD}
 use lib.Dec.{eqb, ltb}
 use borrow.Author.Tests.{eqb-true, eqb-false, eq-eqb, ne-eqb, ltb-true, ltb-false, le-ltb}
 use Rattle.laws.proofs.TestLaws.{which, clash}
@@ -17,6 +16,7 @@ use Rattle.rows.specs.Named.{named, Named}
 use Rattle.rows.proofs.NamedLaws.{named-iff}
 use Rattle.disjunction.specs.Sets.{at}
 use Rattle.disjunction.specs.Asked.{Asked, everySet, everyWith, wanted}
+use Rattle.store.specs.Store as stores
 use Rattle.store.specs.Store.{Store, roomIn, linkOf, walkIn, searchOf, answerOf, storeAfter}
 use Rattle.store.specs.declared.Looked.{Looked}
 use Rattle.store.specs.declared.Looked.the-variants.{Found, Absent, Damaged}
@@ -29,7 +29,7 @@ use Rattle.claims.specs.CallRefusals.{Other, linkDue, LooksAt, start, fo
 
 module _ (s : Store) (key bits : ℕ) where
   abbrev hit : ℕ → Bool
-  hit p = eqb (getD (s .keys) p 0) key
+  hit p = eqb (stores.keyAt s p) key
 
   -- What it is for a search to say a.
   abbrev Said : Looked → Type 0
@@ -38,7 +38,7 @@ module _ (s : Store) (key bits : ℕ) where
   Said (Damaged n) = LinkPasses s key bits ⊎ LooksTooOften s key bits
 
   other : (p : ℕ) → hit p ≡ false → Other s key bits p
-  other p e = eqb-false (getD (s .keys) p 0) key e
+  other p e = eqb-false (stores.keyAt s p) key e
 
   search-said : Said (searchOf s key bits)
   unfolding searchOf
@@ -61,7 +61,7 @@ module _ (s : Store) (key bits : ℕ) where
         omega arith,
         e
             ∙ walk-on hit (bitOf key) (linkOf (s .left) (s .right)) (s .found) (bits - d) (bits - (d + 1)) d p (omega arith)
-            (ne-eqb (getD (s .keys) p 0) key o) (λ z. absurd (omega arith)) (omega arith)
+            (ne-eqb (stores.keyAt s p) key o) (λ z. absurd (omega arith)) (omega arith)
             ∙ ap (λ (x : ℕ). walkIn s key (bits - (d + 1)) (d + 1) x) (let z : linkDue s key bits d p - 1 ≡ r = omega arith in z),
       )
 
@@ -72,7 +72,7 @@ module _ (s : Store) (key bits : ℕ) where
     bitOf key d,
     d + 1,
     looks-walk w .1
-        ∙ walk-absent hit (bitOf key) (linkOf (s .left) (s .right)) (s .found) (bits - d) d p (omega arith) (ne-eqb (getD (s .keys) p 0) key o) z,
+        ∙ walk-absent hit (bitOf key) (linkOf (s .left) (s .right)) (s .found) (bits - d) d p (omega arith) (ne-eqb (stores.keyAt s p) key o) z,
   )
 
   passes-damaged : LinkPasses s key bits → (n : ℕ) × (searchOf s key bits ≡ Damaged n)
@@ -80,7 +80,7 @@ module _ (s : Store) (key bits : ℕ) where
   passes-damaged (d, p, w, o, h, u) = (
     d + 1,
     looks-walk w .1
-        ∙ walk-past hit (bitOf key) (linkOf (s .left) (s .right)) (s .found) (bits - d) d p (omega arith) (ne-eqb (getD (s .keys) p 0) key o)
+        ∙ walk-past hit (bitOf key) (linkOf (s .left) (s .right)) (s .found) (bits - d) d p (omega arith) (ne-eqb (stores.keyAt s p) key o)
         (λ z. absurd (omega arith)) u,
   )
 
@@ -88,7 +88,7 @@ module _ (s : Store) (key bits : ℕ) where
   unfolding searchOf
   often-damaged (p, w, o) = (
     bits + 1,
-    looks-walk w .1 ∙ walk-last hit (bitOf key) (linkOf (s .left) (s .right)) (s .found) (bits - bits) bits p (omega arith) (ne-eqb (getD (s .keys) p 0) key o),
+    looks-walk w .1 ∙ walk-last hit (bitOf key) (linkOf (s .left) (s .right)) (s .found) (bits - bits) bits p (omega arith) (ne-eqb (stores.keyAt s p) key o),
   )
 
 -- ---- what is asked for

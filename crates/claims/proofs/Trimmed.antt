@@ -23,6 +23,7 @@ use Rattle.tables.specs.Sizes.{mostTables}
 use Rattle.tables.specs.Catalogues.{schemeOf, countOf, firstCell, touch, touchingBelow, rowStart, codeOf, rowsBefore, total}
 use Rattle.tables.specs.Checks.{firstOf, sizeFault, tableFault, tablesFault, shapeFault, misstored, storedFault, catalogueFault, Lawful}
 use Rattle.tables.proofs.CheckLaws.{fault-lawful}
+use Rattle.tables.proofs.VersionLaws.{version-same}
 use Rattle.disjunction.specs.Sets.{Tables, at}
 use Rattle.disjunction.specs.Rule.{Place, addRow, rowAt, member, Grown, extension, alone, trial}
 use Rattle.disjunction.specs.Asked.{Asked, everySet, everyWith, wanted, firstFor}
@@ -227,9 +228,9 @@ module _ (cat : Catalogue) (xs cs ps ms : List ℕ) (A : Agree cat xs cs ps ms) 
         ap (λ (s : Place). extension (worldOf cat′ cells) (alone (worldOf cat′ cells) s)) (row-same cells 0) ∙ from-alone (rowAt (worldOf cat cells) 0)
     first-grown (everyWith s) = from-alone s
 
-    open-same : (a : Asked) (keys left right : List ℕ) → openingFor cat′ cells a keys left right ≡ openingFor cat cells a keys left right
+    open-same : (a : Asked) (low high left right : List ℕ) → openingFor cat′ cells a low high left right ≡ openingFor cat cells a low high left right
     unfolding openingFor begun
-    open-same a keys left right = rw (open-fault (length cells) a (storeIn keys left right 0), total-same, first-grown a) refl
+    open-same a low high left right = rw (open-fault (length cells) a (storeIn low high left right 0), total-same, first-grown a) refl
 
   -- ---- a write
 
@@ -238,7 +239,13 @@ module _ (cat : Catalogue) (xs cs ps ms : List ℕ) (A : Agree cat xs cs ps ms) 
     unfolding cellsFault
     cells-fault zero t h = refl
     cells-fault (suc k) t h =
-        rw (first-same t (omega arith), A .schemes t (omega arith), A .rows t (omega arith), cells-fault k (t + 1) (omega arith)) refl
+        rw (
+          version-same cat cat′ refl (A .rows),
+          first-same t (omega arith),
+          A .schemes t (omega arith),
+          A .rows t (omega arith),
+          cells-fault k (t + 1) (omega arith),
+        ) refl
 
     tables-image : (k t : ℕ) → t + k ≡ cat .n → tablesImage k cat′ cells t ≡ tablesImage k cat cells t
     unfolding tablesImage
@@ -248,7 +255,7 @@ module _ (cat : Catalogue) (xs cs ps ms : List ℕ) (A : Agree cat xs cs ps ms) 
 
     image-same : imageOf cat′ cells ≡ imageOf cat cells
     unfolding imageOf
-    image-same = rw (tables-image (cat .n) 0 (omega arith)) refl
+    image-same = rw (version-same cat cat′ refl (A .rows), tables-image (cat .n) 0 (omega arith)) refl
 
     write-fault : writeFault cat′ cells ≡ writeFault cat cells
     unfolding writeFault

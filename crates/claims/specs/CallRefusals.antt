@@ -5,7 +5,7 @@ use Prim.Native.Nat.{ℕ, suc, _+_, _-_, _≤_, _<_}
 use mathlib.Core.Path.{_≡_}
 use mathlib.Core.Logic.{_⊎_, _↔_}
 use mathlib.Core.List.{List}
-use lib.ListN.{length, getD}
+use lib.ListN.{length}
 use Rattle.words.specs.Words.{bitOf}
 use Rattle.keys.specs.Keys.{bitsPerRow, keyOf}
 use Rattle.tables.specs.declared.Catalogue.{Catalogue}
@@ -14,6 +14,7 @@ use Rattle.tables.specs.Checks.{Lawful, catalogueFault}
 use Rattle.rows.specs.Named.{Named}
 use Rattle.disjunction.specs.Sets.{at}
 use Rattle.disjunction.specs.Asked.{Asked, everySet, everyWith}
+use Rattle.store.specs.Store as stores
 use Rattle.store.specs.Store.{Store, storeIn, roomIn, linkOf}
 use Rattle.claims.specs.CatalogueRefusals.{OfCatalogue}
 use Rattle.machine.specs.Machine.{State, keyAt, keyDue, deepest, done, trialDue, trialOn, aSet, finished, working, refused, Called, Askable, Fit, Opened}
@@ -24,7 +25,7 @@ use Rattle.machine.specs.Machine.{State, keyAt, keyDue, deepest, done, trialDue
 module _ (s : Store) (key bits : ℕ) where
   -- "A look compares the record's key": that of record p is another.
   abbrev pub Other : ℕ → Type 0
-  Other p = getD (s .keys) p 0 ≡ key → ⊥
+  Other p = stores.keyAt s p ≡ key → ⊥
 
   -- The link of record p that a search follows at depth d: "bit d of the sought key .. chooses left for 0, right for 1."
   abbrev pub linkDue : ℕ → ℕ → ℕ
@@ -43,7 +44,7 @@ module _ (s : Store) (key bits : ℕ) where
   abbrev pub LinkPasses : Type 0
   LinkPasses = (d : ℕ) × (p : ℕ) × LooksAt d p × Other p × (d < bits) × (s .found < linkDue d p)
 
-  -- "Look 8n + 1 finds another key than the sought one": 8n bits are turned by, and look 8n + 1 is the one at depth 8n.
+  -- "Look" 12n + 1 (#110) "finds another key than the sought one": 12n bits are turned by, and look 12n + 1 is the one at depth 12n.
   abbrev pub LooksTooOften : Type 0
   LooksTooOften = (p : ℕ) × LooksAt bits p × Other p
 
@@ -134,12 +135,12 @@ module _ (cat : Catalogue) (cells : List ℕ) where
   -- ---- open
 
   -- An open `begin`: "checks the catalogue .., then 12 if N is above 0 and the store has no record"; between them 19, of a stream that is asked for a row.
-  pub record OpenExact (asked : Asked) (begin : List ℕ → List ℕ → List ℕ → Opened) (keys left right : List ℕ) : Type 0 where
-    pub catalogue : (k : ℕ) → (catalogueFault cat (length cells) ≡ 0 → ⊥) → (begin keys left right .refusal ≡ k) ↔ (catalogueFault cat (length cells) ≡ k)
-    pub refusal-19 : (begin keys left right .refusal ≡ 19) ↔ (Lawful cat (length cells) × (Askable cat asked → ⊥))
-    pub refusal-12 : (begin keys left right .refusal ≡ 12)
-        ↔ (Lawful cat (length cells) × Askable cat asked × (0 < total cat) × (roomIn (storeIn keys left right 0) ≡ 0))
-    pub none : (begin keys left right .refusal ≡ 0)
-        ↔ (Lawful cat (length cells) × Askable cat asked × (0 < total cat → 0 < roomIn (storeIn keys left right 0)))
+  pub record OpenExact (asked : Asked) (begin : List ℕ → List ℕ → List ℕ → List ℕ → Opened) (low high left right : List ℕ) : Type 0 where
+    pub catalogue : (k : ℕ) → (catalogueFault cat (length cells) ≡ 0 → ⊥) → (begin low high left right .refusal ≡ k) ↔ (catalogueFault cat (length cells) ≡ k)
+    pub refusal-19 : (begin low high left right .refusal ≡ 19) ↔ (Lawful cat (length cells) × (Askable cat asked → ⊥))
+    pub refusal-12 : (begin low high left right .refusal ≡ 12)
+        ↔ (Lawful cat (length cells) × Askable cat asked × (0 < total cat) × (roomIn (storeIn low high left right 0) ≡ 0))
+    pub none : (begin low high left right .refusal ≡ 0)
+        ↔ (Lawful cat (length cells) × Askable cat asked × (0 < total cat → 0 < roomIn (storeIn low high left right 0)))
     -- and no other.
-    pub no-other : (k : ℕ) → begin keys left right .refusal ≡ k → (k ≡ 0) ⊎ OfCatalogue k ⊎ (k ≡ 19) ⊎ (k ≡ 12)
+    pub no-other : (k : ℕ) → begin low high left right .refusal ≡ k → (k ≡ 0) ⊎ OfCatalogue k ⊎ (k ≡ 19) ⊎ (k ≡ 12)

@@ -17,10 +17,10 @@ use Rattle.machine.specs.Machine.{State, Says, aSet, finished, working, refused
 use Rattle.stream.specs.Promises.{stateOf, holdingStateOf}
 use Rattle.abi.specs.Words.{catalogueWords, tableWords, wordsOf, catalogueIn}
 use Rattle.abi.specs.Calls.{tooFewWords, LoadCall, madeIn, MakeCall, WriteCall}
-use Rattle.abi.specs.Lists.{verdictWord, verdictWords, ListCall}
+use Rattle.abi.specs.Lists.{namedWords, verdictWords, ListCall}
 use Rattle.hub.specs.declared.ListVerdict.{ListVerdict}
 use Rattle.hub.specs.declared.ListVerdict.the-variants as Hub
-use Rattle.hub.specs.Promises.{checked}
+use Rattle.hub.specs.Promises.{listedKeys, checked}
 use Rattle.abi.specs.Streams.{recordWords, holdingWords, resultWords, wordsOfState, recordIn, holdingIn, OpenCall, NextCall, OpenHoldingCall, NextHoldingCall}
 
 -- ---- what is told, and what is left
@@ -33,17 +33,17 @@ Reads r working = (r % 32 ≡ 0) × (r / 32 ≡ 3)
 Reads r (refused k) = (r % 32 ≡ k) × (r / 32 ≡ 0)
 
 -- Of an open o whose slices are long enough, which answered r: refusal and row tests are read off. Refused, it has written nothing but a record of zeros.
-pub record OpenTold (asked : Asked) (o : Opened) (keys left right words : List ℕ) (r : ℕ) (keys′ left′ right′ words′ : List ℕ) : Type 0 where
+pub record OpenTold (asked : Asked) (o : Opened) (low high left right words : List ℕ) (r : ℕ) (low′ high′ left′ right′ words′ : List ℕ) : Type 0 where
   pub reads : (r % 32 ≡ o .refusal) × (r / 32 ≡ o .tests)
   pub leaves : (o .refusal ≡ 0 → ⊥)
-      → (keys′ ≡ keys) × (left′ ≡ left) × (right′ ≡ right) × (words′ ≡ put (wordsOfState (zeros asked keys left right)) words)
+      → (low′ ≡ low) × (high′ ≡ high) × (left′ ≡ left) × (right′ ≡ right) × (words′ ≡ put (wordsOfState (zeros asked low high left right)) words)
 
 -- Of a call s whose slices are long enough, which answered r. `fault` is its refusal before work, 0 for none: such a call has changed neither the store nor
--- the record nor the padded row, and gives key 0 and counts 0.
-pub record CallTold (fault : ℕ) (s : Called) (keys left right words row result : List ℕ) (r : ℕ) (keys′ left′ right′ words′ row′ result′ : List ℕ) : Type 0 where
+-- the record nor the padded row, and gives the key of no row and counts 0.
+pub record CallTold (fault : ℕ) (s : Called) (low high left right words row result : List ℕ) (r : ℕ) (low′ high′ left′ right′ words′ row′ result′ : List ℕ) : Type 0 where
   pub reads : Reads r (s .says)
   pub leaves : (fault ≡ 0 → ⊥)
-      → (keys′ ≡ keys) × (left′ ≡ left) × (right′ ≡ right) × (words′ ≡ words) × (row′ ≡ row) × (result′ ≡ put (0 ∷ 0 ∷ 0 ∷ 0 ∷ []) result)
+      → (low′ ≡ low) × (high′ ≡ high) × (left′ ≡ left) × (right′ ≡ right) × (words′ ≡ words) × (row′ ≡ row) × (result′ ≡ put (0 ∷ 0 ∷ 0 ∷ 0 ∷ 0 ∷ []) result)
 
 -- The answer of a list's check, read off its number: 1 for right, 2 for an entry, 3 for a missing set, over no refusal; or a refusal alone.
 abbrev pub ReadsList : ℕ → ListVerdict → Type 0
@@ -84,33 +84,34 @@ pub record AbiExact : Type 0 where
   -- A refused write has changed nothing.
   pub write-refused : (words cells out : List ℕ) (r : ℕ) (out′ : List ℕ) → WriteCall words cells out r out′ → catalogueWords ≤ length words
       → (k : ℕ) → written (catalogueIn words) cells (length out) ≡ Written.Refused k → (r % 32 ≡ k) × (r / 32 ≡ 0) × (out′ ≡ out)
-  pub open-few : (catalogue cells keys left right words : List ℕ) (r : ℕ) (ks ls rs ws : List ℕ) → OpenCall catalogue cells keys left right words r ks ls rs ws
+  pub open-few : (catalogue cells low high left right words : List ℕ) (r : ℕ) (ks hs ls rs ws : List ℕ) → OpenCall catalogue cells low high left right words r ks hs ls rs ws
       → (r ≡ tooFewWords) ↔ FewToOpen recordWords catalogue words
-  pub open-told : (catalogue cells keys left right words : List ℕ) (r : ℕ) (ks ls rs ws : List ℕ) → OpenCall catalogue cells keys left right words r ks ls rs ws
+  pub open-told : (catalogue cells low high left right words : List ℕ) (r : ℕ) (ks hs ls rs ws : List ℕ) → OpenCall catalogue cells low high left right words r ks hs ls rs ws
       → (FewToOpen recordWords catalogue words → ⊥)
-      → OpenTold everySet (openingFor (catalogueIn catalogue) cells everySet keys left right) keys left right words r ks ls rs ws
-  pub open-holding-few : (catalogue cells keys left right : List ℕ) (t n : ℕ) (words : List ℕ) (r : ℕ) (ks ls rs ws : List ℕ)
-      → OpenHoldingCall catalogue cells keys left right t n words r ks ls rs ws → (r ≡ tooFewWords) ↔ FewToOpen holdingWords catalogue words
-  pub open-holding-told : (catalogue cells keys left right : List ℕ) (t n : ℕ) (words : List ℕ) (r : ℕ) (ks ls rs ws : List ℕ)
-      → OpenHoldingCall catalogue cells keys left right t n words r ks ls rs ws → (FewToOpen holdingWords catalogue words → ⊥)
+      → OpenTold everySet (openingFor (catalogueIn catalogue) cells everySet low high left right) low high left right words r ks hs ls rs ws
+  pub open-holding-few : (catalogue cells low high left right : List ℕ) (t n : ℕ) (words : List ℕ) (r : ℕ) (ks hs ls rs ws : List ℕ)
+      → OpenHoldingCall catalogue cells low high left right t n words r ks hs ls rs ws → (r ≡ tooFewWords) ↔ FewToOpen holdingWords catalogue words
+  pub open-holding-told : (catalogue cells low high left right : List ℕ) (t n : ℕ) (words : List ℕ) (r : ℕ) (ks hs ls rs ws : List ℕ)
+      → OpenHoldingCall catalogue cells low high left right t n words r ks hs ls rs ws → (FewToOpen holdingWords catalogue words → ⊥)
       → OpenTold (everyWith (record { table = t; row = n }))
-      (openingFor (catalogueIn catalogue) cells (everyWith (record { table = t; row = n })) keys left right) keys left right words r ks ls rs ws
-  pub next-few : (catalogue cells keys left right words : List ℕ) (b : ℕ) (row result : List ℕ) (r : ℕ) (ks ls rs ws w′ res : List ℕ)
-      → NextCall catalogue cells keys left right words b row result r ks ls rs ws w′ res → (r ≡ tooFewWords) ↔ FewToCall recordWords catalogue words result
-  pub next-told : (catalogue cells keys left right words : List ℕ) (b : ℕ) (row result : List ℕ) (r : ℕ) (ks ls rs ws w′ res : List ℕ)
-      → NextCall catalogue cells keys left right words b row result r ks ls rs ws w′ res → (FewToCall recordWords catalogue words result → ⊥)
-      → CallTold (callFault (catalogueIn catalogue) (length cells) (stateOf (recordIn words) keys left right) row)
-      (call (catalogueIn catalogue) cells b (stateOf (recordIn words) keys left right) row) keys left right words row result r ks ls rs ws w′ res
-  pub next-holding-few : (catalogue cells keys left right words : List ℕ) (b : ℕ) (row result : List ℕ) (r : ℕ) (ks ls rs ws w′ res : List ℕ)
-      → NextHoldingCall catalogue cells keys left right words b row result r ks ls rs ws w′ res
+      (openingFor (catalogueIn catalogue) cells (everyWith (record { table = t; row = n })) low high left right) low high left right words r ks hs ls rs ws
+  pub next-few : (catalogue cells low high left right words : List ℕ) (b : ℕ) (row result : List ℕ) (r : ℕ) (ks hs ls rs ws w′ res : List ℕ)
+      → NextCall catalogue cells low high left right words b row result r ks hs ls rs ws w′ res → (r ≡ tooFewWords) ↔ FewToCall recordWords catalogue words result
+  pub next-told : (catalogue cells low high left right words : List ℕ) (b : ℕ) (row result : List ℕ) (r : ℕ) (ks hs ls rs ws w′ res : List ℕ)
+      → NextCall catalogue cells low high left right words b row result r ks hs ls rs ws w′ res → (FewToCall recordWords catalogue words result → ⊥)
+      → CallTold (callFault (catalogueIn catalogue) (length cells) (stateOf (recordIn words) low high left right) row)
+      (call (catalogueIn catalogue) cells b (stateOf (recordIn words) low high left right) row) low high left right words row result r ks hs ls rs ws w′ res
+  pub next-holding-few : (catalogue cells low high left right words : List ℕ) (b : ℕ) (row result : List ℕ) (r : ℕ) (ks hs ls rs ws w′ res : List ℕ)
+      → NextHoldingCall catalogue cells low high left right words b row result r ks hs ls rs ws w′ res
       → (r ≡ tooFewWords) ↔ FewToCall holdingWords catalogue words result
-  pub next-holding-told : (catalogue cells keys left right words : List ℕ) (b : ℕ) (row result : List ℕ) (r : ℕ) (ks ls rs ws w′ res : List ℕ)
-      → NextHoldingCall catalogue cells keys left right words b row result r ks ls rs ws w′ res → (FewToCall holdingWords catalogue words result → ⊥)
-      → CallTold (callFault (catalogueIn catalogue) (length cells) (holdingStateOf (holdingIn words) keys left right) row)
-      (call (catalogueIn catalogue) cells b (holdingStateOf (holdingIn words) keys left right) row) keys left right words row result r ks ls rs ws w′ res
-  pub list-few : (catalogue cells listed result : List ℕ) (r : ℕ) (result′ : List ℕ) → ListCall catalogue cells listed result r result′
+  pub next-holding-told : (catalogue cells low high left right words : List ℕ) (b : ℕ) (row result : List ℕ) (r : ℕ) (ks hs ls rs ws w′ res : List ℕ)
+      → NextHoldingCall catalogue cells low high left right words b row result r ks hs ls rs ws w′ res → (FewToCall holdingWords catalogue words result → ⊥)
+      → CallTold (callFault (catalogueIn catalogue) (length cells) (holdingStateOf (holdingIn words) low high left right) row)
+      (call (catalogueIn catalogue) cells b (holdingStateOf (holdingIn words) low high left right) row) low high left right words row result r ks hs ls rs ws w′ res
+  pub list-few : (catalogue cells low high result : List ℕ) (r : ℕ) (result′ : List ℕ) → ListCall catalogue cells low high result r result′
       → (r ≡ tooFewWords) ↔ ((length catalogue < catalogueWords) ⊎ (length result < verdictWords))
-  -- The answer is read off, and the one word of the result has what it names.
-  pub list-told : (catalogue cells listed result : List ℕ) (r : ℕ) (result′ : List ℕ) → ListCall catalogue cells listed result r result′
+  -- The answer is read off, and the two words of the result have what it names.
+  pub list-told : (catalogue cells low high result : List ℕ) (r : ℕ) (result′ : List ℕ) → ListCall catalogue cells low high result r result′
       → ((length catalogue < catalogueWords) ⊎ (length result < verdictWords) → ⊥)
-      → ReadsList r (checked (catalogueIn catalogue) cells listed) × (result′ ≡ put (verdictWord (checked (catalogueIn catalogue) cells listed) ∷ []) result)
+      → ReadsList r (checked (catalogueIn catalogue) cells (listedKeys low high))
+      × (result′ ≡ put (namedWords (checked (catalogueIn catalogue) cells (listedKeys low high))) result)

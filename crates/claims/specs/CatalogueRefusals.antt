@@ -18,7 +18,7 @@ SizesOut cat = ((cat .m < 1) ⊎ (mostAttributes < cat .m)) ⊎ ((cat .n < 1) �
 abbrev pub BadScheme : Catalogue → ℕ → Type 0
 BadScheme cat t = (schemeOf cat t ≡ 0) ⊎ (2 ^ (cat .m) ≤ schemeOf cat t)
 
--- "6: more than 255 rows"
+-- "6 means .. above 4,095 in version 2 and in a catalogue" (#110)
 abbrev pub ManyRows : Catalogue → ℕ → Type 0
 ManyRows cat t = mostRows < countOf cat t
 

@@ -26,12 +26,13 @@ use Rattle.machine.specs.Runs.{Given, runOf, endedOf, handed, sum, moves, looks
 -- ---- demand 1: the refusals, "by the exact conditions above"
 
 -- Of any stream whose open is `begin` and whose call is `step`, on these tables.
-pub record Demand1 (cat : Catalogue) (cells : List ℕ) (asked : Asked) (begin : List ℕ → List ℕ → List ℕ → Opened) (step : ℕ → State → List ℕ → Called) : Type 0 where
+pub record Demand1 (cat : Catalogue) (cells : List ℕ) (asked : Asked) (begin : List ℕ → List ℕ → List ℕ → List ℕ → Opened)
+    (step : ℕ → State → List ℕ → Called) : Type 0 where
   -- Open gives each refusal exactly when its condition holds and no earlier one does, and none exactly where none does.
-  pub opens : (keys left right : List ℕ) → OpenExact cat cells asked begin keys left right
+  pub opens : (low high left right : List ℕ) → OpenExact cat cells asked begin low high left right
   -- "Refused, it gives a record of zeros and writes nothing."
-  pub zeroed : (keys left right : List ℕ) → (begin keys left right .refusal ≡ 0 → ⊥)
-      → (begin keys left right .after ≡ zeros asked keys left right) × (begin keys left right .tests ≡ 0)
+  pub zeroed : (low high left right : List ℕ) → (begin low high left right .refusal ≡ 0 → ⊥)
+      → (begin low high left right .after ≡ zeros asked low high left right) × (begin low high left right .tests ≡ 0)
   -- A call gives each refusal and each other answer exactly when, whatever the record and the store, damaged ones too.
   pub calls : (b : ℕ) (q : State) (row : List ℕ) → CallExact cat cells step b q row
   -- "Checks the catalogue as open does, then 13, then 11. These change nothing"; "the counts are 0".
@@ -95,7 +96,7 @@ goesOn finished s u = s
 goesOn (refused r) s u = s
 
 module _ (cat : Catalogue) (cells : List ℕ) where
-  -- "Exactly N trials, at most n x N x N row tests and N x (8n + 1) store looks."
+  -- "Exactly N trials, at most n x N x N row tests and N x (8n + 1)", now N x (12n + 1) (#110), "store looks."
   pub record Gap (l : List Called) : Type 0 where
     pub trials : sum (λ s. s .trials) l ≡ total cat
     pub tests : sum (λ s. s .tests) l ≤ cat .n * total cat * total cat
@@ -223,21 +224,21 @@ module _ (cat : Catalogue) (cells : List ℕ) (asked : Asked) where
   -- Wherever open gives no refusal, demands 2 and 3 hold of the calls after it.
   abbrev pub Demands : Type 0
   Demands =
-      (keys left right : List ℕ) → openingFor cat cells asked keys left right .refusal ≡ 0
-      → Demand2 cat cells asked (call cat cells) (openingFor cat cells asked keys left right .after)
-      × Demand3 cat cells asked (call cat cells) (roomIn (storeIn keys left right 0)) (openingFor cat cells asked keys left right .after)
+      (low high left right : List ℕ) → openingFor cat cells asked low high left right .refusal ≡ 0
+      → Demand2 cat cells asked (call cat cells) (openingFor cat cells asked low high left right .after)
+      × Demand3 cat cells asked (call cat cells) (roomIn (storeIn low high left right 0)) (openingFor cat cells asked low high left right .after)
 
   -- Open meets 12 exactly where there are more sets asked for than records, which are none.
   abbrev pub OpenFull : Type 0
   OpenFull =
-      (keys left right : List ℕ) → Lawful cat (length cells) → Askable cat asked
-      → (openingFor cat cells asked keys left right .refusal ≡ 12)
-      ↔ ((roomIn (storeIn keys left right 0) ≡ 0) × MoreOf (Sought (worldOf cat cells) asked) 0)
+      (low high left right : List ℕ) → Lawful cat (length cells) → Askable cat asked
+      → (openingFor cat cells asked low high left right .refusal ≡ 12)
+      ↔ ((roomIn (storeIn low high left right 0) ≡ 0) × MoreOf (Sought (worldOf cat cells) asked) 0)
 
   -- Any two stores that open takes, the second at least as long as the first.
   abbrev pub Longers : Type 0
   Longers =
-      (keys left right keys' left' right' : List ℕ) → openingFor cat cells asked keys left right .refusal ≡ 0
-      → openingFor cat cells asked keys' left' right' .refusal ≡ 0
-      → roomIn (storeIn keys left right 0) ≤ roomIn (storeIn keys' left' right' 0)
-      → Longer (call cat cells) (openingFor cat cells asked keys left right .after) (openingFor cat cells asked keys' left' right' .after)
+      (low high left right low' high' left' right' : List ℕ) → openingFor cat cells asked low high left right .refusal ≡ 0
+      → openingFor cat cells asked low' high' left' right' .refusal ≡ 0
+      → roomIn (storeIn low high left right 0) ≤ roomIn (storeIn low' high' left' right' 0)
+      → Longer (call cat cells) (openingFor cat cells asked low high left right .after) (openingFor cat cells asked low' high' left' right' .after)

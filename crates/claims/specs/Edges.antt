@@ -14,7 +14,7 @@ use Rattle.rows.specs.World.{fitsIn}
 use Rattle.loader.specs.declared.Loaded.{Loaded}
 use Rattle.loader.specs.Load.{firstTable, scanOf, tablesCodes, Loads}
 use Rattle.image.specs.RoundTrip.{found}
-use Rattle.image.specs.Edges.{NumberEdges, ImageEdges}
+use Rattle.image.specs.Edges.{NumberEdges, ImageEdges, VersionEdges, NullEdges}
 use Rattle.machine.specs.Machine.{Says, aSet, finished, Called, call, opening}
 use Rattle.machine.specs.Runs.{Given, runOf, handed}
 
@@ -27,7 +27,7 @@ unfoldable pub callsOn : List ℕ → List Given → List Called
 callsOn image gs =
     let cat = scanOf image mostCells .catalogue in
     let cells = put (tablesCodes (cat .n) image firstTable) (replicate mostCells 0) in
-    runOf (call cat cells) gs (opening cat cells (replicate 4 0) (replicate 4 0) (replicate 4 0) .after)
+    runOf (call cat cells) gs (opening cat cells (replicate 4 0) (replicate 4 0) (replicate 4 0) (replicate 4 0) .after)
 
 -- What calls answer.
 unfoldable pub saysIn : List Called → List Says
@@ -42,6 +42,10 @@ pair = filled (given 1 2 (1 ∷ 1 ∷ replicate 6 0) (1 ∷ 1 ∷ replicate 6 0)
 pub record Edges : Type 0 where
   pub numbers : NumberEdges
   pub images : ImageEdges
+  -- Those that #110 moves and adds.
+  pub versions : VersionEdges
+  -- And those of #111.
+  pub nulls : NullEdges
   -- "P `01 01 01 01 00`, good, N = 0, finished at once."
   pub at-once : saysIn (callsOn (0x01 ∷ 0x01 ∷ 0x01 ∷ 0x01 ∷ 0x00 ∷ []) (twoTrials ∷ [])) ≡ finished ∷ []
   -- "P `01 01 01 01 01 00`, good, one null row, one set."

@@ -49,10 +49,10 @@ rushes all step b q row =
 -- Whatever the stream is asked for.
 pub record Frauds (cat : Catalogue) (cells : List ℕ) (asked : Asked) : Type 0 where
   -- "One refuses every table set: demand 1, by the exact conditions above." Its open does, ..
-  pub open-refuses : (begin : List ℕ → List ℕ → List ℕ → Opened) (step : ℕ → State → List ℕ → Called)
-      → ((k l r : List ℕ) → begin k l r .refusal ≡ 0 → ⊥) → Lawful cat (length cells) → Askable cat asked → Demand1 cat cells asked begin step → ⊥
+  pub open-refuses : (begin : List ℕ → List ℕ → List ℕ → List ℕ → Opened) (step : ℕ → State → List ℕ → Called)
+      → ((k u l r : List ℕ) → begin k u l r .refusal ≡ 0 → ⊥) → Lawful cat (length cells) → Askable cat asked → Demand1 cat cells asked begin step → ⊥
   -- .. or its calls do, however rightly it opens.
-  pub call-refuses : (begin : List ℕ → List ℕ → List ℕ → Opened) (step : ℕ → State → List ℕ → Called)
+  pub call-refuses : (begin : List ℕ → List ℕ → List ℕ → List ℕ → Opened) (step : ℕ → State → List ℕ → Called)
       → ((b : ℕ) (p : State) (row : List ℕ) → (r : ℕ) × (step b p row .says ≡ refused r)) → Lawful cat (length cells) → Askable cat asked
       → Demand1 cat cells asked begin step → ⊥
   -- "One hands out a constant set, .. : demand 2."
@@ -76,4 +76,5 @@ pub record Rushed : Type 0 where
       → endedOf step gs q .store .found ≡ 3 → Demand3 three threeCells everySet step c q → ⊥
   -- So the library's own stream, made to find all three in its first trial, is refuted.
   pub all-at-once : (all : Store) → all .found ≡ 3
-      → Demand3 three threeCells everySet (rushes all (call three threeCells)) 4 (opening three threeCells (replicate 4 0) (replicate 4 0) (replicate 4 0) .after) → ⊥
+      → Demand3 three threeCells everySet (rushes all (call three threeCells)) 4
+      (opening three threeCells (replicate 4 0) (replicate 4 0) (replicate 4 0) (replicate 4 0) .after) → ⊥

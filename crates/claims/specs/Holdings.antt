@@ -28,10 +28,12 @@ module _ (cat : Catalogue) (cells : List ℕ) (s : Place) where
 
   -- Of every drained stream of the row, in any store and by any calls; and of every drained stream of document 01 beside it.
   pub record HoldingSets : Type 0 where
-    pub sets : (k l r : List ℕ) → openingHolding cat cells s k l r .refusal ≡ 0 → (gs : List Given)
-        → Answered finished (runOf (call cat cells) gs (openingHolding cat cells s k l r .after))
-        → HandedHolding (handed (runOf (call cat cells) gs (openingHolding cat cells s k l r .after)))
-    pub among : (k l r k′ l′ r′ : List ℕ) → openingHolding cat cells s k l r .refusal ≡ 0 → opening cat cells k′ l′ r′ .refusal ≡ 0 → (gs gs′ : List Given)
-        → Answered finished (runOf (call cat cells) gs (openingHolding cat cells s k l r .after))
-        → Answered finished (runOf (call cat cells) gs′ (opening cat cells k′ l′ r′ .after))
-        → HandedAmong (handed (runOf (call cat cells) gs′ (opening cat cells k′ l′ r′ .after))) (handed (runOf (call cat cells) gs (openingHolding cat cells s k l r .after)))
+    pub sets : (k u l r : List ℕ) → openingHolding cat cells s k u l r .refusal ≡ 0 → (gs : List Given)
+        → Answered finished (runOf (call cat cells) gs (openingHolding cat cells s k u l r .after))
+        → HandedHolding (handed (runOf (call cat cells) gs (openingHolding cat cells s k u l r .after)))
+    pub among : (k u l r k′ u′ l′ r′ : List ℕ) → openingHolding cat cells s k u l r .refusal ≡ 0 → opening cat cells k′ u′ l′ r′ .refusal ≡ 0
+        → (gs gs′ : List Given)
+        → Answered finished (runOf (call cat cells) gs (openingHolding cat cells s k u l r .after))
+        → Answered finished (runOf (call cat cells) gs′ (opening cat cells k′ u′ l′ r′ .after))
+        → HandedAmong (handed (runOf (call cat cells) gs′ (opening cat cells k′ u′ l′ r′ .after)))
+        (handed (runOf (call cat cells) gs (openingHolding cat cells s k u l r .after)))

@@ -28,8 +28,8 @@ pub record Agree (cat : Catalogue) (xs cs ps ms : List ℕ) : Type 0 where
 
 -- Of every catalogue, lawful or not.
 pub record Ignored : Type 0 where
-  pub opens : (cat : Catalogue) (xs cs ps ms : List ℕ) → Agree cat xs cs ps ms → (cells : List ℕ) (a : Asked) (keys left right : List ℕ)
-      → openingFor (entered cat xs cs ps ms) cells a keys left right ≡ openingFor cat cells a keys left right
+  pub opens : (cat : Catalogue) (xs cs ps ms : List ℕ) → Agree cat xs cs ps ms → (cells : List ℕ) (a : Asked) (low high left right : List ℕ)
+      → openingFor (entered cat xs cs ps ms) cells a low high left right ≡ openingFor cat cells a low high left right
   pub calls : (cat : Catalogue) (xs cs ps ms : List ℕ) → Agree cat xs cs ps ms → (cells : List ℕ) (b : ℕ) (q : State) (row : List ℕ)
       → call (entered cat xs cs ps ms) cells b q row ≡ call cat cells b q row
   pub writes : (cat : Catalogue) (xs cs ps ms : List ℕ) → Agree cat xs cs ps ms → (cells : List ℕ) (room : ℕ)

@@ -1,5 +1,5 @@
 -- From an image on: demands 2 and 3 of tables that the loader accepts, from load's promise over open's to the last call's, and the two round trips, each
--- over what the public calls promise. Proved in proofs/Imaged. Assumes nothing.
+-- over what the public calls promise; and the version that an image carries. Proved in proofs/Imaged. Assumes nothing.
 use Prim.Native.Nat.{ℕ, _+_, _*_, _≤_, _<_}
 use mathlib.Core.Path.{_≡_}
 use mathlib.Core.Logic.{_↔_}
@@ -9,8 +9,8 @@ use Rattle.laws.specs.Lists.{put}
 use Rattle.laws.specs.Distinct.{Distinct}
 use Rattle.keys.specs.Keys.{bitsPerRow, keyOf}
 use Rattle.tables.specs.declared.Catalogue.{Catalogue}
-use Rattle.tables.specs.Sizes.{mostTables}
-use Rattle.tables.specs.Catalogues.{firstCell, total}
+use Rattle.tables.specs.Sizes.{mostTables, mostRowsOne, versionOne, versionTwo}
+use Rattle.tables.specs.Catalogues.{countOf, firstCell, total}
 use Rattle.rows.specs.World.{worldOf}
 use Rattle.rows.specs.Named.{There}
 use Rattle.disjunction.specs.Sets.{MoreOf}
@@ -29,6 +29,7 @@ use Rattle.stream.specs.declared.OpenAnswer.{OpenAnswer}
 use Rattle.stream.specs.declared.HoldingOpenAnswer.{HoldingOpenAnswer}
 use Rattle.stream.specs.Promises.{stateOf, holdingStateOf, Opens, OpensHolding}
 use Rattle.claims.specs.Demands.{Answered, Able, Demand2, Demand3}
+use Rattle.claims.specs.WriteRefusals.{NeedsTwo}
 use Rattle.claims.specs.CallsInRow.{InRow}
 
 -- What a slice of bytes holds.
@@ -57,15 +58,15 @@ pub record FromOpen (cat : Catalogue) (cells : List ℕ) (asked : Asked) (c : �
 pub record LoadedDemands : Type 0 where
   -- In a store that has a record if there is a row: then open has refused nothing, and all of it holds from the record and the slices that it left.
   pub every-set : (s lent cells : List ℕ) (r : Loaded) → Bytes s → Loads s lent r cells → r .verdict ≡ Good
-      → (keys left right : List ℕ) → (0 < total (r .catalogue) → 0 < roomIn (storeIn keys left right 0))
-      → (o : OpenAnswer) (ks ls rs : List ℕ) → Opens (r .catalogue) cells keys left right o ks ls rs
-      → (o .refusal ≡ 0) × FromOpen (r .catalogue) cells everySet (roomIn (storeIn keys left right 0)) (stateOf (o .stream) ks ls rs)
+      → (low high left right : List ℕ) → (0 < total (r .catalogue) → 0 < roomIn (storeIn low high left right 0))
+      → (o : OpenAnswer) (ks hs ls rs : List ℕ) → Opens (r .catalogue) cells low high left right o ks hs ls rs
+      → (o .refusal ≡ 0) × FromOpen (r .catalogue) cells everySet (roomIn (storeIn low high left right 0)) (stateOf (o .stream) ks hs ls rs)
   -- The same for one row that is there, of the stream of the sets that hold it (#109).
   pub holding : (s lent cells : List ℕ) (r : Loaded) → Bytes s → Loads s lent r cells → r .verdict ≡ Good
-      → (keys left right : List ℕ) (table row : ℕ) → There (r .catalogue) table row → 0 < roomIn (storeIn keys left right 0)
-      → (o : HoldingOpenAnswer) (ks ls rs : List ℕ) → OpensHolding (r .catalogue) cells keys left right table row o ks ls rs
+      → (low high left right : List ℕ) (table row : ℕ) → There (r .catalogue) table row → 0 < roomIn (storeIn low high left right 0)
+      → (o : HoldingOpenAnswer) (ks hs ls rs : List ℕ) → OpensHolding (r .catalogue) cells low high left right table row o ks hs ls rs
       → (o .refusal ≡ 0)
-      × FromOpen (r .catalogue) cells (everyWith (record { table = table; row = row })) (roomIn (storeIn keys left right 0)) (holdingStateOf (o .stream) ks ls rs)
+      × FromOpen (r .catalogue) cells (everyWith (record { table = table; row = row })) (roomIn (storeIn low high left right 0)) (holdingStateOf (o .stream) ks hs ls rs)
 
 -- Both ways between an image and its tables.
 pub record RoundTrips : Type 0 where
@@ -77,3 +78,10 @@ pub record RoundTrips : Type 0 where
       → length (cat .schemes) ≡ mostTables → length (cat .rows) ≡ mostTables → firstCell cat (cat .n) ≤ length lent
       → Writes cat cells out (Length n) wrote → Loads (take n wrote) lent r after
       → (r ≡ found (trimmed cat)) × (after ≡ put (take (firstCell cat (cat .n)) cells) lent)
+
+-- "Images with a table above 255 rows carry version 2, all others version 1" (#110): the first byte that a write puts down, exactly when.
+pub record Carries : Type 0 where
+  pub two : (cat : Catalogue) (cells out wrote : List ℕ) (n : ℕ) → Writes cat cells out (Length n) wrote
+      → (getD wrote 0 0 ≡ versionTwo) ↔ NeedsTwo cat
+  pub one : (cat : Catalogue) (cells out wrote : List ℕ) (n : ℕ) → Writes cat cells out (Length n) wrote
+      → (getD wrote 0 0 ≡ versionOne) ↔ ((t : ℕ) → t < cat .n → countOf cat t ≤ mostRowsOne)

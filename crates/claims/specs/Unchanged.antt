@@ -23,9 +23,9 @@ use Rattle.stream.specs.Promises.{stateOf, Opens, Steps}
 pub record Unchanged : Type 0 where
   pub load : (s lent after : List ℕ) (r : Loaded) (f : Fault) → Loads s lent r after → r .verdict ≡ Refused f → (r .catalogue ≡ noTables) × (after ≡ lent)
   pub write : (cat : Catalogue) (cells lent after : List ℕ) (k : ℕ) → Writes cat cells lent (Written.Refused k) after → after ≡ lent
-  pub «open» : (cat : Catalogue) (cells keys left right : List ℕ) (o : OpenAnswer) (ks ls rs : List ℕ) → Opens cat cells keys left right o ks ls rs
-      → (o .refusal ≡ 0 → ⊥) → (o .stream ≡ record { found = 0; taken = 0; «next_row» = 0 }) × (ks ≡ keys) × (ls ≡ left) × (rs ≡ right)
+  pub «open» : (cat : Catalogue) (cells low high left right : List ℕ) (o : OpenAnswer) (ks hs ls rs : List ℕ) → Opens cat cells low high left right o ks hs ls rs
+      → (o .refusal ≡ 0 → ⊥) → (o .stream ≡ record { found = 0; taken = 0; «next_row» = 0 }) × (ks ≡ low) × (hs ≡ high) × (ls ≡ left) × (rs ≡ right)
   -- The thin call's promise is this one's, with the record that it leaves.
-  pub step : (cat : Catalogue) (cells keys left right : List ℕ) (s : StreamRecord) (b : ℕ) (row : List ℕ) (r : StepAnswer) (ks ls rs w : List ℕ)
-      → Steps cat cells keys left right s b row r ks ls rs w → (callFault cat (length cells) (stateOf s keys left right) row ≡ 0 → ⊥)
-      → (r .stream ≡ s) × (ks ≡ keys) × (ls ≡ left) × (rs ≡ right) × (w ≡ row)
+  pub step : (cat : Catalogue) (cells low high left right : List ℕ) (s : StreamRecord) (b : ℕ) (row : List ℕ) (r : StepAnswer) (ks hs ls rs w : List ℕ)
+      → Steps cat cells low high left right s b row r ks hs ls rs w → (callFault cat (length cells) (stateOf s low high left right) row ≡ 0 → ⊥)
+      → (r .stream ≡ s) × (ks ≡ low) × (hs ≡ high) × (ls ≡ left) × (rs ≡ right) × (w ≡ row)

@@ -1,4 +1,4 @@
--- The door's number tells the refusal and its place, since no refusal has a number above 17. Assumes nothing.
+-- The door's number tells the refusal and its place, since no refusal has a number above the highest, which is below 32. Assumes nothing.
 use Prim.Native.Nat.{ℕ, _/_, _%_}
 use native.Mathlib.Omega.{arith}
 use mathlib.Core.Path.{_≡_}

@@ -19,12 +19,14 @@ withHolding r s = record { answer = r .answer; key = r .key; trials = r .trials;
 
 -- The thin call: s is the record that was lent, and s′ what it holds afterwards.
 abbrev pub Nexts :
-    Catalogue → List ℕ → List ℕ → List ℕ → List ℕ → StreamRecord → ℕ → List ℕ → NextAnswer → StreamRecord → List ℕ → List ℕ → List ℕ → List ℕ → Type 0
-Nexts cat cells keys left right s budget row r s′ keys′ left′ right′ row′ =
-    Steps cat cells keys left right s budget row (withRecord r s′) keys′ left′ right′ row′
+    Catalogue → List ℕ → List ℕ → List ℕ → List ℕ → List ℕ → StreamRecord → ℕ → List ℕ → NextAnswer → StreamRecord → List ℕ → List ℕ → List ℕ → List ℕ
+    → List ℕ → Type 0
+Nexts cat cells low high left right s budget row r s′ low′ high′ left′ right′ row′ =
+    Steps cat cells low high left right s budget row (withRecord r s′) low′ high′ left′ right′ row′
 
 -- That of the stream of the sets that hold one row.
 abbrev pub NextsHolding :
-    Catalogue → List ℕ → List ℕ → List ℕ → List ℕ → HoldingRecord → ℕ → List ℕ → NextAnswer → HoldingRecord → List ℕ → List ℕ → List ℕ → List ℕ → Type 0
-NextsHolding cat cells keys left right s budget row r s′ keys′ left′ right′ row′ =
-    StepsHolding cat cells keys left right s budget row (withHolding r s′) keys′ left′ right′ row′
+    Catalogue → List ℕ → List ℕ → List ℕ → List ℕ → List ℕ → HoldingRecord → ℕ → List ℕ → NextAnswer → HoldingRecord → List ℕ → List ℕ → List ℕ → List ℕ
+    → List ℕ → Type 0
+NextsHolding cat cells low high left right s budget row r s′ low′ high′ left′ right′ row′ =
+    StepsHolding cat cells low high left right s budget row (withHolding r s′) low′ high′ left′ right′ row′

@@ -8,6 +8,7 @@ ghost use Rattle.stream.specs.Promises.{Opens, Steps, OpensHolding, StepsHoldin
 ghost use Rattle.harbour.specs.Answers.{Nexts, NextsHolding};
 ghost use Rattle.hub.specs.Promises.{ChecksList};
 pub use hub::ListVerdict;
+pub use keys::Key;
 pub use loader::Fault;
 pub use loader::Loaded;
 pub use loader::Verdict;
@@ -22,11 +23,11 @@ pub use tables::Catalogue;
 pub use tables::Made;
 pub use writer::Written;
 
-// What the thin call answers: the answer, the key of a set (else 0), its trials, row tests and looks.
+// What the thin call answers: the answer, the key of a set (else that of no row), its trials, row tests and looks.
 // The record is not in it: the call has moved it on where it lies.
 pub struct NextAnswer {
     pub answer: Answer,
-    pub key: u64,
+    pub key: Key,
     pub trials: usize,
     pub tests: usize,
     pub looks: usize,
@@ -56,18 +57,19 @@ pub fn write(cat: Catalogue, cells: &[u64], out: &mut [u8]) -> Written
     writer::write(cat, cells, out)
 }
 
-// Opens a stream on the tables, in the store that the three slices make.
+// Opens a stream on the tables, in the store that the four slices make.
 // All that it gives, and all that the slices then hold, is the paper's open.
 pub fn open(
     cat: Catalogue,
     cells: &[u64],
-    keys: &mut [u64],
+    low: &mut [u64],
+    high: &mut [u64],
     left: &mut [u16],
     right: &mut [u16],
 ) -> OpenAnswer
-    ensures { λ r. ⌜ Opens cat (now (cells .entry)) (now (keys .entry)) (now (left .entry)) (now (right .entry)) r (now (keys .exit)) (now (left .exit)) (now (right .exit)) ⌝ }
+    ensures { λ r. ⌜ Opens cat (now (cells .entry)) (now (low .entry)) (now (high .entry)) (now (left .entry)) (now (right .entry)) r (now (low .exit)) (now (high .exit)) (now (left .exit)) (now (right .exit)) ⌝ }
 {
-    stream::open(cat, cells, keys, left, right)
+    stream::open(cat, cells, low, high, left, right)
 }
 
 // One call of an open stream with a budget of trials: the thin call, which takes the record by `&mut` and moves it on in place.
@@ -75,17 +77,18 @@ pub fn open(
 pub fn next(
     cat: Catalogue,
     cells: &[u64],
-    keys: &mut [u64],
+    low: &mut [u64],
+    high: &mut [u64],
     left: &mut [u16],
     right: &mut [u16],
     stream: &mut StreamRecord,
     budget: usize,
     padded: &mut [u64],
 ) -> NextAnswer
-    ensures { λ r. ⌜ Nexts cat (now (cells .entry)) (now (keys .entry)) (now (left .entry)) (now (right .entry)) (now (stream .entry)) budget (now (padded .entry)) r (now (stream .exit)) (now (keys .exit)) (now (left .exit)) (now (right .exit)) (now (padded .exit)) ⌝ }
+    ensures { λ r. ⌜ Nexts cat (now (cells .entry)) (now (low .entry)) (now (high .entry)) (now (left .entry)) (now (right .entry)) (now (stream .entry)) budget (now (padded .entry)) r (now (stream .exit)) (now (low .exit)) (now (high .exit)) (now (left .exit)) (now (right .exit)) (now (padded .exit)) ⌝ }
 {
     let before = *stream;
-    let m = stream::step(cat, cells, keys, left, right, before, budget, padded);
+    let m = stream::step(cat, cells, low, high, left, right, before, budget, padded);
     *stream = m.stream;
     NextAnswer {
         answer: m.answer,
@@ -101,17 +104,18 @@ pub fn next(
 pub fn step(
     cat: Catalogue,
     cells: &[u64],
-    keys: &mut [u64],
+    low: &mut [u64],
+    high: &mut [u64],
     left: &mut [u16],
     right: &mut [u16],
     stream: StreamRecord,
     budget: usize,
     padded: &mut [u64],
 ) -> StepAnswer
-    ensures { λ r. ⌜ Steps cat (now (cells .entry)) (now (keys .entry)) (now (left .entry)) (now (right .entry)) stream budget (now (padded .entry)) r (now (keys .exit)) (now (left .exit)) (now (right .exit)) (now (padded .exit)) ⌝ }
+    ensures { λ r. ⌜ Steps cat (now (cells .entry)) (now (low .entry)) (now (high .entry)) (now (left .entry)) (now (right .entry)) stream budget (now (padded .entry)) r (now (low .exit)) (now (high .exit)) (now (left .exit)) (now (right .exit)) (now (padded .exit)) ⌝ }
 {
     let mut s = stream;
-    let h = next(cat, cells, keys, left, right, &mut s, budget, padded);
+    let h = next(cat, cells, low, high, left, right, &mut s, budget, padded);
     StepAnswer {
         answer: h.answer,
         key: h.key,
@@ -122,20 +126,21 @@ pub fn step(
     }
 }
 
-// Opens a stream of the sets that hold one row of a table, in the store that the three slices make.
+// Opens a stream of the sets that hold one row of a table, in the store that the four slices make.
 // All that it gives, and all that the slices then hold, is the paper's open with that row for the first.
 pub fn open_holding(
     cat: Catalogue,
     cells: &[u64],
-    keys: &mut [u64],
+    low: &mut [u64],
+    high: &mut [u64],
     left: &mut [u16],
     right: &mut [u16],
     table: usize,
     row: usize,
 ) -> HoldingOpenAnswer
-    ensures { λ r. ⌜ OpensHolding cat (now (cells .entry)) (now (keys .entry)) (now (left .entry)) (now (right .entry)) table row r (now (keys .exit)) (now (left .exit)) (now (right .exit)) ⌝ }
+    ensures { λ r. ⌜ OpensHolding cat (now (cells .entry)) (now (low .entry)) (now (high .entry)) (now (left .entry)) (now (right .entry)) table row r (now (low .exit)) (now (high .exit)) (now (left .exit)) (now (right .exit)) ⌝ }
 {
-    stream::open_holding(cat, cells, keys, left, right, table, row)
+    stream::open_holding(cat, cells, low, high, left, right, table, row)
 }
 
 // One call of a stream of the sets that hold one row: the thin call, which takes its record by `&mut` and moves it on in place.
@@ -143,17 +148,18 @@ pub fn open_holding(
 pub fn next_holding(
     cat: Catalogue,
     cells: &[u64],
-    keys: &mut [u64],
+    low: &mut [u64],
+    high: &mut [u64],
     left: &mut [u16],
     right: &mut [u16],
     stream: &mut HoldingRecord,
     budget: usize,
     padded: &mut [u64],
 ) -> NextAnswer
-    ensures { λ r. ⌜ NextsHolding cat (now (cells .entry)) (now (keys .entry)) (now (left .entry)) (now (right .entry)) (now (stream .entry)) budget (now (padded .entry)) r (now (stream .exit)) (now (keys .exit)) (now (left .exit)) (now (right .exit)) (now (padded .exit)) ⌝ }
+    ensures { λ r. ⌜ NextsHolding cat (now (cells .entry)) (now (low .entry)) (now (high .entry)) (now (left .entry)) (now (right .entry)) (now (stream .entry)) budget (now (padded .entry)) r (now (stream .exit)) (now (low .exit)) (now (high .exit)) (now (left .exit)) (now (right .exit)) (now (padded .exit)) ⌝ }
 {
     let before = *stream;
-    let m = stream::step_holding(cat, cells, keys, left, right, before, budget, padded);
+    let m = stream::step_holding(cat, cells, low, high, left, right, before, budget, padded);
     *stream = m.stream;
     NextAnswer {
         answer: m.answer,
@@ -168,16 +174,17 @@ pub fn next_holding(
 pub fn step_holding(
     cat: Catalogue,
     cells: &[u64],
-    keys: &mut [u64],
+    low: &mut [u64],
+    high: &mut [u64],
     left: &mut [u16],
     right: &mut [u16],
     stream: HoldingRecord,
     budget: usize,
     padded: &mut [u64],
 ) -> HoldingStepAnswer
-    ensures { λ r. ⌜ StepsHolding cat (now (cells .entry)) (now (keys .entry)) (now (left .entry)) (now (right .entry)) stream budget (now (padded .entry)) r (now (keys .exit)) (now (left .exit)) (now (right .exit)) (now (padded .exit)) ⌝ }
+    ensures { λ r. ⌜ StepsHolding cat (now (cells .entry)) (now (low .entry)) (now (high .entry)) (now (left .entry)) (now (right .entry)) stream budget (now (padded .entry)) r (now (low .exit)) (now (high .exit)) (now (left .exit)) (now (right .exit)) (now (padded .exit)) ⌝ }
 {
-    stream::step_holding(cat, cells, keys, left, right, stream, budget, padded)
+    stream::step_holding(cat, cells, low, high, left, right, stream, budget, padded)
 }
 
 // Whether one padded row covers another: the same length, the same value wherever both have one, and at least as many values.
@@ -188,10 +195,15 @@ pub fn covers(first: &[u64], second: &[u64]) -> bool
     padding::covers(first, second)
 }
 
-// Checks a list of keys, as the regional hub sends it: whether it holds every maximal set once and nothing else, in any order.
+// Checks a list of keys, as the regional hub sends it, their words in two slices: whether it holds every maximal set once and nothing else, in any order.
 // A no names the first entry that is none or a repeat, or else the first set not listed that the trials over the listed sets reach.
-pub fn check_list(cat: Catalogue, cells: &[u64], listed: &[u64]) -> ListVerdict
-    ensures { λ r. ⌜ ChecksList cat (now (cells .entry)) (now (listed .entry)) r ⌝ }
+pub fn check_list(
+    cat: Catalogue,
+    cells: &[u64],
+    listed_low: &[u64],
+    listed_high: &[u64],
+) -> ListVerdict
+    ensures { λ r. ⌜ ChecksList cat (now (cells .entry)) (now («listed_low» .entry)) (now («listed_high» .entry)) r ⌝ }
 {
-    hub::check_list(cat, cells, listed)
+    hub::check_list(cat, cells, listed_low, listed_high)
 }

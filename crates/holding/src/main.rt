@@ -8,10 +8,19 @@ use lister::Scope;
 // Lists what is asked for of the input, in cells and a store of its own.
 fn list(scope: Scope, input: &[u8]) {
     let mut cells = [0u64; 8192];
-    let mut keys = [0u64; 4096];
+    let mut low = [0u64; 4096];
+    let mut high = [0u64; 4096];
     let mut left = [0u16; 4096];
     let mut right = [0u16; 4096];
-    lister::print(scope, input, &mut cells, &mut keys, &mut left, &mut right);
+    lister::print(
+        scope,
+        input,
+        &mut cells,
+        &mut low,
+        &mut high,
+        &mut left,
+        &mut right,
+    );
 }
 
 // Reads standard input and lists the sets that hold a row of it as an image.

@@ -13,6 +13,7 @@ use Rattle.laws.specs.Tests.{any, all}
 use Rattle.laws.proofs.TestLaws.{which, clash, iff-eq, not-yes, all-each, any-of, lowest-none, lowest-at}
 use Rattle.laws.proofs.MemberLaws.{mem-at, at-mem}
 use Rattle.keys.specs.Keys.{bitsPerRow, rowOf, keyOf}
+use Rattle.keys.specs.TwoWords.{keyWith}
 use Rattle.keys.proofs.SetLaws.{in-at, in-some}
 use Rattle.tables.specs.declared.Catalogue.{Catalogue}
 use Rattle.tables.specs.Catalogues.{total}
@@ -158,7 +159,7 @@ module _ (cat : Catalogue) (cells : List ℕ) (lent : ℕ) (L : Lawful cat lent)
   none-right z = ap answerOf (empty-none (worldOf cat cells) (rows-total cat cells ∙ z))
 
   pub none-missing : 0 < total cat
-      → answerOf (verdict (worldOf cat cells) []) ≡ Missing (keyOf bitsPerRow (extension (worldOf cat cells) (alone (worldOf cat cells) (rowAt (worldOf cat cells) 0)) .rows))
+      → answerOf (verdict (worldOf cat cells) []) ≡ Missing (keyWith (keyOf bitsPerRow (extension (worldOf cat cells) (alone (worldOf cat cells) (rowAt (worldOf cat cells) 0)) .rows)))
   none-missing h = ap answerOf (empty-some (worldOf cat cells) (omega (arith, rows-total cat cells)))
 
   -- ---- the entries
@@ -350,9 +351,9 @@ module _ (cat : Catalogue) (cells : List ℕ) (lent : ℕ) (L : Lawful cat lent)
             ∙ out-none sets (triedOn (worldOf cat cells) sets)
             (λ U m. reached-maximal (worldOf cat cells) (world-symmetric cat cells) sets s U (rw (some-reached h) m)) e)
 
-        pub judged-missing : (k : ℕ) → k ≡ outOf (seek sets (triedOn (worldOf cat cells) sets)) → (k ≡ 0 → ⊥) → answerOf (verdict (worldOf cat cells) sets) ≡ Missing k
+        pub judged-missing : (k : ℕ) → k ≡ outOf (seek sets (triedOn (worldOf cat cells) sets)) → (k ≡ 0 → ⊥) → answerOf (verdict (worldOf cat cells) sets) ≡ Missing (keyWith k)
         judged-missing k e n =
             ⊎-elim
             (λ y. absurd (n (e ∙ ap outOf y)))
-            (λ (U, q, m). ap answerOf (rest ∙ q) ∙ ap Missing (sym (e ∙ ap outOf q)))
+            (λ (U, q, m). ap answerOf (rest ∙ q) ∙ ap (λ (z : ℕ). Missing (keyWith z)) (sym (e ∙ ap outOf q)))
             (seek-cases sets (triedOn (worldOf cat cells) sets))

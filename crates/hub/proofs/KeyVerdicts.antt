@@ -15,6 +15,8 @@ use Rattle.laws.proofs.TestLaws.{which, clash, any-some, any-of}
 use Rattle.laws.proofs.MemberLaws.{mem-at, at-mem}
 use Rattle.laws.proofs.DistinctLaws.{distinct-at, distinct-by}
 use Rattle.keys.specs.Keys.{bitsPerRow, keyOf}
+use Rattle.keys.specs.TwoWords.{numberOf, keyWith}
+use Rattle.keys.proofs.TwoWordLaws.{number-key}
 use Rattle.tables.specs.declared.Catalogue.{Catalogue}
 use Rattle.tables.specs.Checks.{Lawful}
 use Rattle.disjunction.specs.Sets.{Symmetric, Maximal}
@@ -178,10 +180,12 @@ module _ (cat : Catalogue) (cells : List ℕ) (lent : ℕ) (L : Lawful cat lent)
     entry-said (entry j) i e = let q : j ≡ i = cc in ap entry q
     entry-said (missing T) i e = absurd (let z : _≡_ {A = ℕ} 0 1 = cc in omega arith)
 
-    missing-said : (v : Verdict) (k : ℕ) → answerOf v ≡ Missing k → (T : List ℕ) × (v ≡ missing T) × (k ≡ keyOf bitsPerRow T)
+    missing-said : (v : Verdict) (k : ℕ) → answerOf v ≡ Missing (keyWith k) → (T : List ℕ) × (v ≡ missing T) × (k ≡ keyOf bitsPerRow T)
     missing-said right k e = absurd (let z : _≡_ {A = ℕ} 0 1 = cc in omega arith)
     missing-said (entry j) k e = absurd (let z : _≡_ {A = ℕ} 0 1 = cc in omega arith)
-    missing-said (missing T) k e = (T, refl, cc)
+    missing-said (missing T) k e =
+        let q : keyWith (keyOf bitsPerRow T) ≡ keyWith k = cc in
+        (T, refl, sym (number-key k) ∙ ap numberOf (sym q) ∙ number-key (keyOf bitsPerRow T))
 
     -- It is never a refusal.
     pub never-refused : (v : Verdict) (k : ℕ) → answerOf v ≡ Refused k → ⊥
@@ -217,7 +221,7 @@ module _ (cat : Catalogue) (cells : List ℕ) (lent : ℕ) (L : Lawful cat lent)
     )
 
     -- "Failing that, the first maximal set not in the list that the stream's trials reach."
-    pub keys-missing : (k : ℕ) → Says (Missing k) ↔ (SoundKeys cat cells words × FirstOutKey cat cells words k)
+    pub keys-missing : (k : ℕ) → Says (Missing (keyWith k)) ↔ (SoundKeys cat cells words × FirstOutKey cat cells words k)
     keys-missing k = (to, from)
       where
         -- What is reached is maximal, so that it is listed where its key is.
@@ -228,7 +232,7 @@ module _ (cat : Catalogue) (cells : List ℕ) (lent : ℕ) (L : Lawful cat lent)
           λ U m. reached-maximal (worldOf cat cells) S sets s U (rw e (Memᴰ·append-left (T ∷ back) m)),
         )
 
-        to : Says (Missing k) → SoundKeys cat cells words × FirstOutKey cat cells words k
+        to : Says (Missing (keyWith k)) → SoundKeys cat cells words × FirstOutKey cat cells words k
         to e =
             let (T, v, q) = missing-said (verdict (worldOf cat cells) sets) k e in
             let (s, x) = verdict-missing (worldOf cat cells) S sets T .0 v in
@@ -245,7 +249,7 @@ module _ (cat : Catalogue) (cells : List ℕ) (lent : ℕ) (L : Lawful cat lent)
               },
             )
 
-        from : SoundKeys cat cells words × FirstOutKey cat cells words k → Says (Missing k)
+        from : SoundKeys cat cells words × FirstOutKey cat cells words k → Says (Missing (keyWith k))
         from (s′, x) =
             let s = sound-keys .1 s′ in
             let (y, f) = met s (x .front) (x .back) (x .set) (x .split) in
@@ -257,9 +261,9 @@ module _ (cat : Catalogue) (cells : List ℕ) (lent : ℕ) (L : Lawful cat lent)
               before = λ U m. listed-key s U (f U m) .1 (x .before U m);
               out = λ m. x .out (Memᴰ·cast (x .key) (listed-key s (x .set) y .0 m));
             } in
-            ap answerOf (verdict-missing (worldOf cat cells) S sets (x .set) .1 (s, o)) ∙ ap Missing (sym (x .key))
+            ap answerOf (verdict-missing (worldOf cat cells) S sets (x .set) .1 (s, o)) ∙ ap (λ (z : ℕ). Missing (keyWith z)) (sym (x .key))
 
     -- A missing set is maximal.
-    pub missing-key : (k : ℕ) → Says (Missing k) → MaximalKey cat cells k
+    pub missing-key : (k : ℕ) → Says (Missing (keyWith k)) → MaximalKey cat cells k
     missing-key k e =
         let (T, v, q) = missing-said (verdict (worldOf cat cells) sets) k e in (T, missing-maximal (worldOf cat cells) S sets T v .0, q)

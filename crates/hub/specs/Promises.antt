@@ -1,13 +1,15 @@
 -- What the check of the hub's list promises: the verdict of specs/Verdicts on the sets that the listed words name, behind the catalogue's refusals. And
 -- what the verdicts say of the words themselves (proofs/KeyVerdicts). Assumes nothing.
-use Prim.Native.Nat.{ℕ, zero, suc, _<_}
+use Prim.Native.Nat.{ℕ, zero, suc, _<_, min}
 use mathlib.Core.Path.{_≡_}
 use mathlib.Core.Logic.{_⊎_}
 use mathlib.Core.Bool.{cond}
 use mathlib.Core.List.{List, [], _∷_, _++_, map, List·Memᴰ}
 use lib.ListN.{length, getD}
+use Rattle.laws.specs.Lists.{tab}
 use Rattle.laws.specs.Distinct.{Distinct}
 use Rattle.keys.specs.Keys.{bitsPerRow, keyOf}
+use Rattle.keys.specs.TwoWords.{numberIn, keyWith}
 use Rattle.tables.specs.declared.Catalogue.{Catalogue}
 use Rattle.tables.specs.Checks.{catalogueFault}
 use Rattle.disjunction.specs.Sets.{Maximal}
@@ -17,11 +19,15 @@ use Rattle.hub.specs.declared.ListVerdict.{ListVerdict}
 use Rattle.hub.specs.declared.ListVerdict.the-variants.{Right, Entry, Missing, Refused}
 use Rattle.hub.specs.Verdicts.{Verdict, right, entry, missing, reached, verdict}
 
--- The set that a listed word names. A word that is 0, or that names a missing row or a table from n on, names no row.
+-- The listed keys: "Words lie in two slices; the shortest slice counts" (#110).
+unfoldable pub listedKeys : List ℕ → List ℕ → List ℕ
+listedKeys low high = tab (min (length low) (length high)) (λ i. numberIn (getD low i 0) (getD high i 0))
+
+-- The set that a listed key names. One that is 0, or that names a missing row or a table from n on, or that has a spare bit, names no row.
 unfoldable pub wordSet : Catalogue → ℕ → List ℕ
 wordSet cat word = cond (named cat word) (setOf cat word) []
 
--- Those of a list of words.
+-- Those of a list of keys.
 abbrev pub wordSets : Catalogue → List ℕ → List (List ℕ)
 wordSets cat words = map (wordSet cat) words
 
@@ -29,7 +35,7 @@ wordSets cat words = map (wordSet cat) words
 abbrev pub answerOf : Verdict → ListVerdict
 answerOf right = Right
 answerOf (entry i) = Entry i
-answerOf (missing T) = Missing (keyOf bitsPerRow T)
+answerOf (missing T) = Missing (keyWith (keyOf bitsPerRow T))
 
 -- "Refusals: 4, 5, 6 and 8 over the catalogue, as in open."
 abbrev pub refusedOr : ℕ → ListVerdict → ListVerdict
@@ -37,13 +43,13 @@ refusedOr zero v = v
 refusedOr (suc k) v = Refused (suc k)
 
 module _ (cat : Catalogue) (cells : List ℕ) where
-  -- The check of a list of words.
+  -- The check of a list of keys.
   unfoldable pub checked : List ℕ → ListVerdict
   checked words = refusedOr (catalogueFault cat (length cells)) (answerOf (verdict (worldOf cat cells) (wordSets cat words)))
 
   -- What `check_list` promises; it is lent nothing that it could write.
-  abbrev pub ChecksList : List ℕ → ListVerdict → Type 0
-  ChecksList words r = r ≡ checked words
+  abbrev pub ChecksList : List ℕ → List ℕ → ListVerdict → Type 0
+  ChecksList low high r = r ≡ checked (listedKeys low high)
 
   -- ---- what the verdicts say of the words
 

@@ -11,10 +11,10 @@ use Rattle.keys.specs.Keys.{bitsPerRow, keyOf}
 use Rattle.tables.specs.declared.Catalogue.{Catalogue}
 use Rattle.rows.specs.World.{worldOf}
 use Rattle.store.specs.Store.{storeIn, mostRecords, linkOf}
-use Rattle.store.specs.Good.{GoodStore}
+use Rattle.store.specs.Good.{Key, GoodStore}
 use Rattle.walks.specs.Firsts.{FirstIn}
 use Rattle.hub.specs.Verdicts.{Verdict, right, entry, missing, spoilt}
-use Rattle.hub.specs.Promises.{wordSets}
+use Rattle.hub.specs.Promises.{wordSets, listedKeys}
 
 -- One of the first k words is this.
 unfoldable pub among : List ℕ → ℕ → ℕ → Bool
@@ -26,11 +26,15 @@ outOf right = 0
 outOf (entry i) = 0
 outOf (missing T) = keyOf bitsPerRow T
 
--- The first k words lie in a good search tree: the words are its keys, these are its links, and those of records not used yet are 0.
-pub record Linked (n : ℕ) (words left right : List ℕ) (k : ℕ) : Type 0 where
+-- A key has no row from n on, so that a search tells it from others.
+abbrev pub Low : ℕ → ℕ → Type 0
+Low n key = Key bitsPerRow n key
+
+-- The first k listed keys lie in a good search tree: the slices of their words are its keys, these are its links, and those of records not used yet are 0.
+pub record Linked (n : ℕ) (low high left right : List ℕ) (k : ℕ) : Type 0 where
   pub long-left : length left ≡ mostRecords
   pub long-right : length right ≡ mostRecords
-  pub good : 0 < k → GoodStore bitsPerRow n (storeIn words left right k)
+  pub good : 0 < k → GoodStore bitsPerRow n (storeIn low high left right k)
   pub bare : (s : Bool) (p : ℕ) → k ≤ p → linkOf left right s p ≡ 0
 
 -- How many of so many words have a record.
@@ -38,11 +42,11 @@ abbrev pub recordsOf : ℕ → ℕ
 recordsOf k = min k mostRecords
 
 -- What entering word i promises: whether it repeats an earlier one; if not, it is in the tree too.
-pub record Enters (n : ℕ) (words : List ℕ) (i : ℕ) (r : Bool) (left right : List ℕ) : Type 0 where
-  pub repeats : r ≡ among words i (getD words i 0)
-  pub linked : r ≡ false → Linked n words left right (recordsOf (i + 1))
+pub record Enters (n : ℕ) (low high : List ℕ) (i : ℕ) (r : Bool) (left right : List ℕ) : Type 0 where
+  pub repeats : r ≡ among (listedKeys low high) i (getD (listedKeys low high) i 0)
+  pub linked : r ≡ false → Linked n low high left right (recordsOf (i + 1))
 
 -- What the first pass promises: the first spoilt entry, or that there is none (their number); then all of them are in the tree.
-pub record Spoils (cat : Catalogue) (cells words : List ℕ) (r : ℕ) (left right : List ℕ) : Type 0 where
-  pub first : FirstIn (length words) (spoilt (worldOf cat cells) (wordSets cat words)) r
-  pub linked : r ≡ length words → Linked (cat .n) words left right (recordsOf (length words))
+pub record Spoils (cat : Catalogue) (cells low high : List ℕ) (r : ℕ) (left right : List ℕ) : Type 0 where
+  pub first : FirstIn (length (listedKeys low high)) (spoilt (worldOf cat cells) (wordSets cat (listedKeys low high))) r
+  pub linked : r ≡ length (listedKeys low high) → Linked (cat .n) low high left right (recordsOf (length (listedKeys low high)))

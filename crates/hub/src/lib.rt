@@ -1,4 +1,4 @@
-// The hub's list: whether a list of keys holds every maximal set once and nothing else.
+// The hub's list: whether a list of keys, whose words lie in two slices, holds every maximal set once and nothing else.
 // The list is itself the keys of a store: a search tree over it, whose links lie in arrays of the call, finds repeats and answers every search.
 ghost use mathlib.Core.Path.{_≡_};
 ghost use mathlib.Core.Bool.{false};
@@ -6,6 +6,8 @@ ghost use mathlib.Core.List.{[]};
 ghost use Prim.Native.Nat.{_≤_, _<_};
 ghost use lib.ListN.{length, getD};
 ghost use Rattle.keys.specs.Keys.{bitsPerRow, mostTables, keyOf};
+ghost use Rattle.keys.specs.TwoWords.{numberOf, keyWith};
+ghost use lib.Dec.{eqb};
 ghost use Rattle.sets.specs.Promises.{LaidOut};
 ghost use Rattle.tables.specs.Checks.{Lawful};
 ghost use Rattle.disjunction.specs.Sets.{Maximal};
@@ -13,10 +15,11 @@ ghost use Rattle.disjunction.specs.Rule.{rows, trial};
 ghost use Rattle.disjunction.specs.Standing.{givesBack, standing};
 ghost use Rattle.rows.specs.World.{worldOf, setOf, placeOf};
 ghost use Rattle.rows.specs.Named.{Named, There};
-ghost use Rattle.store.specs.Good.{Key};
+ghost use Rattle.hub.specs.declared.ListVerdict.the-variants.{Missing};
 ghost use Rattle.hub.specs.Verdicts.{seek, tried, triedOn, verdict, Sound};
-ghost use Rattle.hub.specs.Promises.{wordSet, wordSets, answerOf, checked, ChecksList};
-ghost use Rattle.hub.specs.Searching.{among, outOf, Linked, recordsOf, Enters, Spoils};
+ghost use Rattle.hub.specs.Promises.{wordSet, wordSets, listedKeys, answerOf, ChecksList};
+ghost use Rattle.hub.specs.Searching.{among, outOf, Low, Linked, recordsOf, Enters, Spoils};
+use keys::Key;
 use sets::Layout;
 use store::Looked;
 use tables::Catalogue;
@@ -29,32 +32,61 @@ const MOST_RECORDS: usize = 65535;
 pub enum ListVerdict {
     Right,
     Entry(usize),
-    Missing(u64),
+    Missing(Key),
     Refused(usize),
+}
+
+// Whether a key names no row.
+// Such a key is given where no set is missing.
+fn is_none(key: Key) -> bool
+    ensures { λ r. ⌜ r ≡ eqb (numberOf key) 0 ⌝ }
+{
+    let none = keys::none();
+    keys::same(key, none)
+}
+
+// The verdict that names a set, which is not listed, by its key.
+// Its words are taken from the key's number, so that the answer is one and the same however the key was come by.
+fn not_listed(key: Key) -> ListVerdict
+    ensures { λ r. ⌜ r ≡ Missing (keyWith (numberOf key)) ⌝ }
+{
+    let low = keys::low_word(key);
+    let high = keys::high_word(key);
+    ListVerdict::Missing(Key { low, high })
+}
+
+// How many keys are listed: the words lie in two slices, and the shorter counts.
+fn list_length(low: &[u64], high: &[u64]) -> usize
+    ensures { λ r. ⌜ r ≡ length (listedKeys (now (low .entry)) (now (high .entry))) ⌝ }
+{
+    if low.len() < high.len() {
+        return low.len();
+    }
+    high.len()
 }
 
 // Whether the trial of the set's own row in table t gives the set back; where it has no row of t, nothing is tried.
 // A set that comes back for each of its rows is maximal, and no other does.
-fn gives_back(cat: Catalogue, cells: &[u64], layout: Layout, key: u64, t: usize) -> bool
-    requires { ⌜ Lawful cat (length (now cells)) × LaidOut cat (now cells) layout × Named cat key × (t < cat .n) ⌝ }
-    ensures { λ r. ⌜ r ≡ givesBack (worldOf cat (now (cells .entry))) (setOf cat key) t ⌝ }
+fn gives_back(cat: Catalogue, cells: &[u64], layout: Layout, key: Key, t: usize) -> bool
+    requires { ⌜ Lawful cat (length (now cells)) × LaidOut cat (now cells) layout × Named cat (numberOf key) × (t < cat .n) ⌝ }
+    ensures { λ r. ⌜ r ≡ givesBack (worldOf cat (now (cells .entry))) (setOf cat (numberOf key)) t ⌝ }
 {
     let row = keys::row_of(key, t) as usize;
     if row == 0 {
         return true;
     }
     let g = sets::trial_set(cat, cells, layout, key, Row { table: t, row });
-    if g.key == key {
+    if keys::same(g.key, key) {
         return true;
     }
     false
 }
 
-// Whether a listed word is the key of a maximal set: it names rows, and the trial of each of them gives the set back.
+// Whether a listed key is that of a maximal set: it names rows, and the trial of each of them gives the set back.
 // No test for consistent or connected rows is made; the trials tell.
-fn is_maximal(cat: Catalogue, cells: &[u64], layout: Layout, word: u64) -> bool
+fn is_maximal(cat: Catalogue, cells: &[u64], layout: Layout, word: Key) -> bool
     requires { ⌜ Lawful cat (length (now cells)) × LaidOut cat (now cells) layout ⌝ }
-    ensures { λ r. ⌜ r ≡ standing (worldOf cat (now (cells .entry))) (wordSet cat word) ⌝ }
+    ensures { λ r. ⌜ r ≡ standing (worldOf cat (now (cells .entry))) (wordSet cat (numberOf word)) ⌝ }
 {
     if !rows::key_named(cat, word) {
         return false;
@@ -72,13 +104,13 @@ fn is_maximal(cat: Catalogue, cells: &[u64], layout: Layout, word: u64) -> bool
 
 // Whether one of the words before place `to` is this one, where none before place `from` is.
 // Only words past the last record of the tree are looked through so.
-fn among_from(listed: &[u64], from: usize, to: usize, word: u64) -> bool
-    requires { ⌜ (from ≤ to) × (to ≤ length (now listed)) ⌝ }
-    ensures { λ r. ⌜ (among (now (listed .entry)) from word ≡ false → r ≡ among (now (listed .entry)) to word) ⌝ }
+fn among_from(low: &[u64], high: &[u64], from: usize, to: usize, word: Key) -> bool
+    requires { ⌜ (from ≤ to) × (to ≤ length (listedKeys (now low) (now high))) ⌝ }
+    ensures { λ r. ⌜ (among (listedKeys (now (low .entry)) (now (high .entry))) from (numberOf word) ≡ false → r ≡ among (listedKeys (now (low .entry)) (now (high .entry))) to (numberOf word)) ⌝ }
 {
     let mut i = from;
     while i < to {
-        if listed[i] == word {
+        if store::is_key(low, high, i, word) {
             return true;
         }
         i += 1;
@@ -100,41 +132,49 @@ fn records_of(words: usize) -> usize
 
 // Whether one of the words before place `to` is this one: a search of the tree, and for those without a record a look at each.
 // Every search of the check is this one, so that its time does not grow with the list.
-fn in_list(listed: &[u64], left: &[u16], right: &[u16], n: usize, to: usize, word: u64) -> bool
-    requires { ⌜ (n ≤ mostTables) × (to ≤ length (now listed)) × Key bitsPerRow n word × Linked n (now listed) (now left) (now right) (recordsOf to) ⌝ }
-    ensures { λ r. ⌜ r ≡ among (now (listed .entry)) to word ⌝ }
+fn in_list(
+    low: &[u64],
+    high: &[u64],
+    left: &[u16],
+    right: &[u16],
+    n: usize,
+    to: usize,
+    word: Key,
+) -> bool
+    requires { ⌜ (n ≤ mostTables) × (to ≤ length (listedKeys (now low) (now high))) × Low n (numberOf word) × Linked n (now low) (now high) (now left) (now right) (recordsOf to) ⌝ }
+    ensures { λ r. ⌜ r ≡ among (listedKeys (now (low .entry)) (now (high .entry))) to (numberOf word) ⌝ }
 {
     if to == 0 {
         return false;
     }
     let built = records_of(to);
     let bits = keys::key_bits(n);
-    match store::find(listed, left, right, built, word, bits) {
+    match store::find(low, high, left, right, built, word, bits) {
         Looked::Found { place: _, looks: _ } => true,
         Looked::Absent {
             place: _,
             side: _,
             looks: _,
-        } => among_from(listed, built, to, word),
+        } => among_from(low, high, built, to, word),
         Looked::Damaged { looks: _ } => false,
     }
 }
 
 // Whether entry i repeats an earlier one; if not, it comes into the tree, where there is a record for it.
 // The word lies in the list already, so that one link is all that is written.
-fn enter(listed: &[u64], left: &mut [u16], right: &mut [u16], n: usize, i: usize) -> bool
-    requires { ⌜ (n ≤ mostTables) × (i < length (now listed)) × Key bitsPerRow n (getD (now listed) i 0) × Linked n (now listed) (now left) (now right) (recordsOf i) ⌝ }
-    ensures { λ r. ⌜ Enters n (now (listed .entry)) i r (now (left .exit)) (now (right .exit)) ⌝ }
+fn enter(low: &[u64], high: &[u64], left: &mut [u16], right: &mut [u16], n: usize, i: usize) -> bool
+    requires { ⌜ (n ≤ mostTables) × (i < length (listedKeys (now low) (now high))) × Low n (getD (listedKeys (now low) (now high)) i 0) × Linked n (now low) (now high) (now left) (now right) (recordsOf i) ⌝ }
+    ensures { λ r. ⌜ Enters n (now (low .entry)) (now (high .entry)) i r (now (left .exit)) (now (right .exit)) ⌝ }
 {
-    let word = listed[i];
+    let word = store::key_at(low, high, i);
     if i == 0 {
         return false;
     }
     if MOST_RECORDS <= i {
-        return in_list(listed, left, right, n, i, word);
+        return in_list(low, high, left, right, n, i, word);
     }
     let bits = keys::key_bits(n);
-    match store::find(listed, left, right, i, word, bits) {
+    match store::find(low, high, left, right, i, word, bits) {
         Looked::Found { place: _, looks: _ } => true,
         Looked::Absent {
             place,
@@ -154,22 +194,23 @@ fn first_spoilt(
     cat: Catalogue,
     cells: &[u64],
     layout: Layout,
-    listed: &[u64],
+    low: &[u64],
+    high: &[u64],
     left: &mut [u16],
     right: &mut [u16],
 ) -> usize
-    requires { ⌜ Lawful cat (length (now cells)) × LaidOut cat (now cells) layout × Linked (cat .n) (now listed) (now left) (now right) 0 ⌝ }
-    ensures { λ r. ⌜ Spoils cat (now (cells .entry)) (now (listed .entry)) r (now (left .exit)) (now (right .exit)) ⌝ }
+    requires { ⌜ Lawful cat (length (now cells)) × LaidOut cat (now cells) layout × Linked (cat .n) (now low) (now high) (now left) (now right) 0 ⌝ }
+    ensures { λ r. ⌜ Spoils cat (now (cells .entry)) (now (low .entry)) (now (high .entry)) r (now (left .exit)) (now (right .exit)) ⌝ }
 {
     let n = cat.n;
-    let count = listed.len();
+    let count = list_length(low, high);
     let mut i: usize = 0;
     while i < count {
-        let word = listed[i];
+        let word = store::key_at(low, high, i);
         if !is_maximal(cat, cells, layout, word) {
             return i;
         }
-        if enter(listed, left, right, n, i) {
+        if enter(low, high, left, right, n, i) {
             return i;
         }
         i += 1;
@@ -179,9 +220,9 @@ fn first_spoilt(
 
 // The key of the set that the trial of a row on a maximal set comes to.
 // A row of the set itself gives the set back, so that no trial is made twice.
-fn reached_by(cat: Catalogue, cells: &[u64], layout: Layout, key: u64, row: Row) -> u64
-    requires { ⌜ Lawful cat (length (now cells)) × LaidOut cat (now cells) layout × Named cat key × There cat (row .table) (row .row) × Maximal (worldOf cat (now cells)) (setOf cat key) ⌝ }
-    ensures { λ k. ⌜ k ≡ keyOf bitsPerRow (trial (worldOf cat (now (cells .entry))) (setOf cat key) (placeOf row) .rows) ⌝ }
+fn reached_by(cat: Catalogue, cells: &[u64], layout: Layout, key: Key, row: Row) -> Key
+    requires { ⌜ Lawful cat (length (now cells)) × LaidOut cat (now cells) layout × Named cat (numberOf key) × There cat (row .table) (row .row) × Maximal (worldOf cat (now cells)) (setOf cat (numberOf key)) ⌝ }
+    ensures { λ k. ⌜ numberOf k ≡ keyOf bitsPerRow (trial (worldOf cat (now (cells .entry))) (setOf cat (numberOf key)) (placeOf row) .rows) ⌝ }
 {
     let table = row.table;
     if keys::row_of(key, table) as usize == row.row {
@@ -191,59 +232,62 @@ fn reached_by(cat: Catalogue, cells: &[u64], layout: Layout, key: u64, row: Row)
     g.key
 }
 
-// The key of the first set that the trials of all rows on a listed set reach and that is not listed; 0 where there is none.
-// 0 is no set's key.
+// The key of the first set that the trials of all rows on a listed set reach and that is not listed; the key of no row where there is none.
+// That of no row is no set's key.
 fn first_out(
     cat: Catalogue,
     cells: &[u64],
     layout: Layout,
-    listed: &[u64],
+    low: &[u64],
+    high: &[u64],
     left: &[u16],
     right: &[u16],
-    key: u64,
-) -> u64
-    requires { ⌜ Lawful cat (length (now cells)) × LaidOut cat (now cells) layout × Named cat key × Maximal (worldOf cat (now cells)) (setOf cat key) × Sound (worldOf cat (now cells)) (wordSets cat (now listed)) × Linked (cat .n) (now listed) (now left) (now right) (recordsOf (length (now listed))) ⌝ }
-    ensures { λ r. ⌜ r ≡ outOf (seek (wordSets cat (now (listed .entry))) (tried (worldOf cat (now (cells .entry))) (setOf cat key) (rows (worldOf cat (now (cells .entry)))))) ⌝ }
+    key: Key,
+) -> Key
+    requires { ⌜ Lawful cat (length (now cells)) × LaidOut cat (now cells) layout × Named cat (numberOf key) × Maximal (worldOf cat (now cells)) (setOf cat (numberOf key)) × Sound (worldOf cat (now cells)) (wordSets cat (listedKeys (now low) (now high))) × Linked (cat .n) (now low) (now high) (now left) (now right) (recordsOf (length (listedKeys (now low) (now high)))) ⌝ }
+    ensures { λ r. ⌜ numberOf r ≡ outOf (seek (wordSets cat (listedKeys (now (low .entry)) (now (high .entry)))) (tried (worldOf cat (now (cells .entry))) (setOf cat (numberOf key)) (rows (worldOf cat (now (cells .entry)))))) ⌝ }
 {
     let n = cat.n;
-    let count = listed.len();
+    let count = list_length(low, high);
     let total = tables::total_rows(cat);
     let mut j: usize = 0;
     while j < total {
         let row = tables::row_at(cat, j);
         let to = reached_by(cat, cells, layout, key, row);
-        if !in_list(listed, left, right, n, count, to) {
+        if !in_list(low, high, left, right, n, count, to) {
             return to;
         }
         j += 1;
     }
-    0
+    keys::none()
 }
 
-// The key of the first set not listed that the trials over the listed sets reach, entries in the hub's order and rows in row order; 0 where there is none.
+// The key of the first set not listed that the trials over the listed sets reach, entries in the hub's order and rows in row order; the key of no row where
+// there is none.
 // A list that no trial leaves holds every maximal set.
 fn first_missing(
     cat: Catalogue,
     cells: &[u64],
     layout: Layout,
-    listed: &[u64],
+    low: &[u64],
+    high: &[u64],
     left: &[u16],
     right: &[u16],
-) -> u64
-    requires { ⌜ Lawful cat (length (now cells)) × LaidOut cat (now cells) layout × Sound (worldOf cat (now cells)) (wordSets cat (now listed)) × Linked (cat .n) (now listed) (now left) (now right) (recordsOf (length (now listed))) ⌝ }
-    ensures { λ r. ⌜ r ≡ outOf (seek (wordSets cat (now (listed .entry))) (triedOn (worldOf cat (now (cells .entry))) (wordSets cat (now (listed .entry))))) ⌝ }
+) -> Key
+    requires { ⌜ Lawful cat (length (now cells)) × LaidOut cat (now cells) layout × Sound (worldOf cat (now cells)) (wordSets cat (listedKeys (now low) (now high))) × Linked (cat .n) (now low) (now high) (now left) (now right) (recordsOf (length (listedKeys (now low) (now high)))) ⌝ }
+    ensures { λ r. ⌜ numberOf r ≡ outOf (seek (wordSets cat (listedKeys (now (low .entry)) (now (high .entry)))) (triedOn (worldOf cat (now (cells .entry))) (wordSets cat (listedKeys (now (low .entry)) (now (high .entry)))))) ⌝ }
 {
-    let count = listed.len();
+    let count = list_length(low, high);
     let mut i: usize = 0;
     while i < count {
-        let key = listed[i];
-        let out = first_out(cat, cells, layout, listed, left, right, key);
-        if out != 0 {
+        let key = store::key_at(low, high, i);
+        let out = first_out(cat, cells, layout, low, high, left, right, key);
+        if !is_none(out) {
             return out;
         }
         i += 1;
     }
-    0
+    keys::none()
 }
 
 // The verdict on the empty list: right where there is no row, else the first row's extension is missing.
@@ -257,43 +301,49 @@ fn judge_none(cat: Catalogue, cells: &[u64], layout: Layout) -> ListVerdict
         return ListVerdict::Right;
     }
     let first = tables::row_at(cat, 0);
-    let alone = keys::with_row(0, first.table, first.row as u64);
+    let none = keys::none();
+    let alone = keys::with_row(none, first.table, first.row as u64);
     let g = sets::extend(cat, cells, layout, alone, 0);
-    ListVerdict::Missing(g.key)
+    not_listed(g.key)
 }
 
 // The verdict on a list, behind the catalogue's refusals: the entries first, then what their trials reach.
 // The links of the tree lie here, in 262 kB of stack; there is no heap.
-fn judge(cat: Catalogue, cells: &[u64], listed: &[u64]) -> ListVerdict
+fn judge(cat: Catalogue, cells: &[u64], low: &[u64], high: &[u64]) -> ListVerdict
     requires { ⌜ Lawful cat (length (now cells)) ⌝ }
-    ensures { λ r. ⌜ r ≡ answerOf (verdict (worldOf cat (now (cells .entry))) (wordSets cat (now (listed .entry)))) ⌝ }
+    ensures { λ r. ⌜ r ≡ answerOf (verdict (worldOf cat (now (cells .entry))) (wordSets cat (listedKeys (now (low .entry)) (now (high .entry))))) ⌝ }
 {
-    let count = listed.len();
+    let count = list_length(low, high);
     let layout = sets::laid_out(cat, cells, count);
     if count == 0 {
         return judge_none(cat, cells, layout);
     }
     let mut left: [u16; 65535] = [0; 65535];
     let mut right: [u16; 65535] = [0; 65535];
-    let spoilt = first_spoilt(cat, cells, layout, listed, &mut left, &mut right);
+    let spoilt = first_spoilt(cat, cells, layout, low, high, &mut left, &mut right);
     if spoilt < count {
         return ListVerdict::Entry(spoilt);
     }
-    let out = first_missing(cat, cells, layout, listed, &left, &right);
-    if out == 0 {
+    let out = first_missing(cat, cells, layout, low, high, &left, &right);
+    if is_none(out) {
         return ListVerdict::Right;
     }
-    ListVerdict::Missing(out)
+    not_listed(out)
 }
 
 // Checks the hub's list: whether it holds every maximal set once and nothing else, in any order.
 // Any words may be listed, and the list may have any length.
-pub fn check_list(cat: Catalogue, cells: &[u64], listed: &[u64]) -> ListVerdict
-    ensures { λ r. ⌜ ChecksList cat (now (cells .entry)) (now (listed .entry)) r ⌝ }
+pub fn check_list(
+    cat: Catalogue,
+    cells: &[u64],
+    listed_low: &[u64],
+    listed_high: &[u64],
+) -> ListVerdict
+    ensures { λ r. ⌜ ChecksList cat (now (cells .entry)) (now («listed_low» .entry)) (now («listed_high» .entry)) r ⌝ }
 {
     let f = tables::fault(cat, cells.len());
     if f != 0 {
         return ListVerdict::Refused(f);
     }
-    judge(cat, cells, listed)
+    judge(cat, cells, listed_low, listed_high)
 }

@@ -4,15 +4,16 @@ use Prim.Native.Nat.{ℕ, zero, suc, _-_, _<_, _≤_}
 use native.Mathlib.Omega.{arith}
 use mathlib.Core.Path.{_≡_, refl, sym, ap, _∙_}
 use mathlib.Core.List.{List, _++_}
-use lib.ListN.{length, getD, take, drop, replicate, length-take, take-append-drop, List·getD-append}
+use lib.ListN.{length, getD, take, drop}
 use lib.Seq.{take-at}
 use borrow.Author.Tests.{le-ltb}
 use Rattle.laws.specs.Lists.{put}
 use Rattle.laws.proofs.ListLaws.{length-put}
 use Rattle.numbers.specs.Numbers.{encode}
 use Rattle.tables.specs.declared.Catalogue.{Catalogue}
-use Rattle.tables.specs.Sizes.{mostTables, version}
+use Rattle.tables.specs.Sizes.{mostTables}
 use Rattle.tables.specs.Catalogues.{schemeOf, countOf, firstCell, touch, touchingBelow, touchingOf, given, placeIn, maskIn}
+use Rattle.tables.specs.Versions.{versionOf}
 use Rattle.tables.specs.Checks.{firstOf, catalogueFault, Lawful}
 use Rattle.tables.proofs.CheckLaws.{first-none, first-clear, lawful-fault}
 use Rattle.tables.proofs.StoredLaws.{for-at}
@@ -25,7 +26,7 @@ use Rattle.loader.specs.Load.{firstTable, scanOf, tablesCodes, cellsAfter, Load
 use Rattle.writer.specs.Write.{tablesImage, imageOf, cellsFault, writeFault, Accepted, lengthFault, writtenOf, written, Writes}
 use Rattle.image.specs.RoundTrip.{front, trimmed, found, loadedCells}
 use Rattle.writer.proofs.AcceptLaws.{fault-accepted, accepted-fault}
-use Rattle.image.proofs.ThereLaws.{scan-there, codes-there}
+use Rattle.image.proofs.ThereLaws.{front-at, kept, count-kept, image-parts, scan-there, codes-there}
 use Rattle.image.proofs.BackLaws.{ScanBack, scan-back, tables-fit, tables-back}
 
 -- ---- loading what was written
@@ -62,14 +63,14 @@ module _ (s lent : List ℕ) (cat : Catalogue) (by : (k : ℕ) → getD s k 0 < 
   pub load-length : length (loadedCells cat s lent) ≡ length lent
   unfolding firstCell
   load-length =
-      let f = tables-fit s by (length lent) cat (cat .n) 0 firstTable (cat .n) (omega arith) (omega arith) (read .tables) in
+      let f = tables-fit s by (read .v) (length lent) cat (cat .n) 0 firstTable (cat .n) (omega arith) (omega arith) (read .tables) in
       length-put (tablesCodes (cat .n) s firstTable) lent (omega (arith, f .0, f .1))
 
   tables-again : (drop firstTable s ≡ tablesImage (cat .n) cat (loadedCells cat s lent) 0) × (cellsFault (cat .n) cat (loadedCells cat s lent) 0 ≡ 0)
   unfolding firstCell
   tables-again =
       let codes = tablesCodes (cat .n) s firstTable in
-      tables-back s by (length lent) cat (loadedCells cat s lent) (drop (length codes) lent) (cat .n) 0 firstTable (read .tables) refl
+      tables-back s by (read .v) (length lent) cat (read .carried) (loadedCells cat s lent) (drop (length codes) lent) (cat .n) 0 firstTable (read .tables) refl
 
   -- The tables are lawful and without fault.
   pub load-lawful : Lawful cat (length lent)
@@ -80,11 +81,12 @@ module _ (s lent : List ℕ) (cat : Catalogue) (by : (k : ℕ) → getD s k 0 < 
 
   -- The writer refuses them for no reason but room, and makes the same bytes of them.
   pub write-loaded : (writeFault cat (loadedCells cat s lent) ≡ 0) × (imageOf cat (loadedCells cat s lent) ≡ s)
-  unfolding writeFault imageOf
+  unfolding writeFault
   write-loaded = (
     first-none (catalogueFault cat (length (loadedCells cat s lent))) (cellsFault (cat .n) cat (loadedCells cat s lent) 0) (rw load-length load-clear)
         ∙ tables-again .1,
-    ap (λ (l : List ℕ). encode version ++ (encode (cat .m) ++ (encode (cat .n) ++ l))) (sym (tables-again .0)) ∙ sym (read .bytes),
+    image-parts cat (loadedCells cat s lent)
+        ∙ ap (λ (l : List ℕ). encode (versionOf cat) ++ (encode (cat .m) ++ (encode (cat .n) ++ l))) (sym (tables-again .0)) ∙ sym (read .bytes),
   )
 
   -- So they are accepted.
@@ -147,37 +149,23 @@ module _ (s lent after : List ℕ) (r : Loaded) (by : (k : ℕ) → getD s k 0 <
 
 -- ---- trimmed
 
--- The entries below n are the same,
-front-at : (n : ℕ) (l : List ℕ) (t : ℕ) → t < n → n ≤ length l → getD (front n l) t 0 ≡ getD l t 0
-unfolding front
-front-at n l t h k =
-    let b : t < length (take n l) = rw (length-take n l) (omega arith) in
-    List·getD-append (take n l) (replicate (mostTables - n) 0) 0 t b
-    ∙ sym (List·getD-append (take n l) (drop n l) 0 t b) ∙ ap (λ (x : List ℕ). getD x t 0) (take-append-drop n l)
-
--- and so are the places and masks that a lawful catalogue stores there.
+-- Below n, places and masks are those that a lawful catalogue stores there.
 module _ (cat : Catalogue) (lent : ℕ) (L : Lawful cat lent) (xs : length (cat .schemes) ≡ mostTables) (cs : length (cat .rows) ≡ mostTables) where
-  abbrev kept : Catalogue
-  kept = given (cat .m) (cat .n) (front (cat .n) (cat .schemes)) (front (cat .n) (cat .rows))
-
-  scheme-kept : (t : ℕ) → t < cat .n → schemeOf kept t ≡ schemeOf cat t
+  scheme-kept : (t : ℕ) → t < cat .n → schemeOf (kept cat) t ≡ schemeOf cat t
   scheme-kept t h = front-at (cat .n) (cat .schemes) t h (omega (arith, L .tables))
 
-  count-kept : (t : ℕ) → t < cat .n → countOf kept t ≡ countOf cat t
-  count-kept t h = front-at (cat .n) (cat .rows) t h (omega (arith, L .tables))
-
-  first-kept : (t : ℕ) → t ≤ cat .n → firstCell kept t ≡ firstCell cat t
+  first-kept : (t : ℕ) → t ≤ cat .n → firstCell (kept cat) t ≡ firstCell cat t
   unfolding firstCell
   first-kept zero h = refl
-  first-kept (suc t) h = rw (first-kept t (omega arith), scheme-kept t (omega arith), count-kept t (omega arith)) refl
+  first-kept (suc t) h = rw (first-kept t (omega arith), scheme-kept t (omega arith), count-kept cat (L .tables) cs t (omega arith)) refl
 
-  touching-kept : (t k : ℕ) → t < cat .n → k ≤ cat .n → touchingBelow kept t k ≡ touchingBelow cat t k
+  touching-kept : (t k : ℕ) → t < cat .n → k ≤ cat .n → touchingBelow (kept cat) t k ≡ touchingBelow cat t k
   unfolding touchingBelow touch
   touching-kept t zero h l = refl
   touching-kept t (suc k) h l = rw (touching-kept t k h (omega arith), scheme-kept t h, scheme-kept k (omega arith)) refl
 
   pub trimmed-stored : (t : ℕ) → t < cat .n → (placeIn (trimmed cat) t ≡ placeIn cat t) × (maskIn (trimmed cat) t ≡ maskIn cat t)
   trimmed-stored t h = (
-    for-at (cat .n) (firstCell kept) t h (L .tables) ∙ first-kept t (omega arith) ∙ sym (L .places t h),
-    for-at (cat .n) (touchingOf kept) t h (L .tables) ∙ touching-kept t (cat .n) h (omega arith) ∙ sym (L .touching t h),
+    for-at (cat .n) (firstCell (kept cat)) t h (L .tables) ∙ first-kept t (omega arith) ∙ sym (L .places t h),
+    for-at (cat .n) (touchingOf (kept cat)) t h (L .tables) ∙ touching-kept t (cat .n) h (omega arith) ∙ sym (L .touching t h),
   )

@@ -47,60 +47,64 @@ pub fn write(cat: Catalogue, cells: &[u64], out: &mut [u8]) -> Written
 pub fn open(
     cat: Catalogue,
     cells: &[u64],
-    keys: &mut [u64],
+    low: &mut [u64],
+    high: &mut [u64],
     left: &mut [u16],
     right: &mut [u16],
 ) -> OpenAnswer
-    ensures { λ r. ⌜ Opens cat (now (cells .entry)) (now (keys .entry)) (now (left .entry)) (now (right .entry)) r (now (keys .exit)) (now (left .exit)) (now (right .exit)) ⌝ }
+    ensures { λ r. ⌜ Opens cat (now (cells .entry)) (now (low .entry)) (now (high .entry)) (now (left .entry)) (now (right .entry)) r (now (low .exit)) (now (high .exit)) (now (left .exit)) (now (right .exit)) ⌝ }
 {
-    harbour::open(cat, cells, keys, left, right)
+    harbour::open(cat, cells, low, high, left, right)
 }
 
 // Calls `harbour::step`, which calls `harbour::next` and would not be proved without its promise.
 pub fn step(
     cat: Catalogue,
     cells: &[u64],
-    keys: &mut [u64],
+    low: &mut [u64],
+    high: &mut [u64],
     left: &mut [u16],
     right: &mut [u16],
     stream: StreamRecord,
     budget: usize,
     padded: &mut [u64],
 ) -> StepAnswer
-    ensures { λ r. ⌜ Steps cat (now (cells .entry)) (now (keys .entry)) (now (left .entry)) (now (right .entry)) stream budget (now (padded .entry)) r (now (keys .exit)) (now (left .exit)) (now (right .exit)) (now (padded .exit)) ⌝ }
+    ensures { λ r. ⌜ Steps cat (now (cells .entry)) (now (low .entry)) (now (high .entry)) (now (left .entry)) (now (right .entry)) stream budget (now (padded .entry)) r (now (low .exit)) (now (high .exit)) (now (left .exit)) (now (right .exit)) (now (padded .exit)) ⌝ }
 {
-    harbour::step(cat, cells, keys, left, right, stream, budget, padded)
+    harbour::step(cat, cells, low, high, left, right, stream, budget, padded)
 }
 
 // Calls `harbour::open_holding`.
 pub fn open_holding(
     cat: Catalogue,
     cells: &[u64],
-    keys: &mut [u64],
+    low: &mut [u64],
+    high: &mut [u64],
     left: &mut [u16],
     right: &mut [u16],
     table: usize,
     row: usize,
 ) -> HoldingOpenAnswer
-    ensures { λ r. ⌜ OpensHolding cat (now (cells .entry)) (now (keys .entry)) (now (left .entry)) (now (right .entry)) table row r (now (keys .exit)) (now (left .exit)) (now (right .exit)) ⌝ }
+    ensures { λ r. ⌜ OpensHolding cat (now (cells .entry)) (now (low .entry)) (now (high .entry)) (now (left .entry)) (now (right .entry)) table row r (now (low .exit)) (now (high .exit)) (now (left .exit)) (now (right .exit)) ⌝ }
 {
-    harbour::open_holding(cat, cells, keys, left, right, table, row)
+    harbour::open_holding(cat, cells, low, high, left, right, table, row)
 }
 
 // Calls `harbour::step_holding`.
 pub fn step_holding(
     cat: Catalogue,
     cells: &[u64],
-    keys: &mut [u64],
+    low: &mut [u64],
+    high: &mut [u64],
     left: &mut [u16],
     right: &mut [u16],
     stream: HoldingRecord,
     budget: usize,
     padded: &mut [u64],
 ) -> HoldingStepAnswer
-    ensures { λ r. ⌜ StepsHolding cat (now (cells .entry)) (now (keys .entry)) (now (left .entry)) (now (right .entry)) stream budget (now (padded .entry)) r (now (keys .exit)) (now (left .exit)) (now (right .exit)) (now (padded .exit)) ⌝ }
+    ensures { λ r. ⌜ StepsHolding cat (now (cells .entry)) (now (low .entry)) (now (high .entry)) (now (left .entry)) (now (right .entry)) stream budget (now (padded .entry)) r (now (low .exit)) (now (high .exit)) (now (left .exit)) (now (right .exit)) (now (padded .exit)) ⌝ }
 {
-    harbour::step_holding(cat, cells, keys, left, right, stream, budget, padded)
+    harbour::step_holding(cat, cells, low, high, left, right, stream, budget, padded)
 }
 
 // Calls `harbour::covers`.
@@ -142,21 +146,23 @@ pub fn write_words(catalogue: &[u64], cells: &[u64], out: &mut [u8]) -> u64
 pub fn open_words(
     catalogue: &[u64],
     cells: &[u64],
-    keys: &mut [u64],
+    low: &mut [u64],
+    high: &mut [u64],
     left: &mut [u16],
     right: &mut [u16],
     words: &mut [u64],
 ) -> u64
-    ensures { λ r. ⌜ OpenCall (now (catalogue .entry)) (now (cells .entry)) (now (keys .entry)) (now (left .entry)) (now (right .entry)) (now (words .entry)) r (now (keys .exit)) (now (left .exit)) (now (right .exit)) (now (words .exit)) ⌝ }
+    ensures { λ r. ⌜ OpenCall (now (catalogue .entry)) (now (cells .entry)) (now (low .entry)) (now (high .entry)) (now (left .entry)) (now (right .entry)) (now (words .entry)) r (now (low .exit)) (now (high .exit)) (now (left .exit)) (now (right .exit)) (now (words .exit)) ⌝ }
 {
-    abi::streams::harbour_open(catalogue, cells, keys, left, right, words)
+    abi::streams::harbour_open(catalogue, cells, low, high, left, right, words)
 }
 
 // Calls `abi::streams::harbour_next`.
 pub fn next_words(
     catalogue: &[u64],
     cells: &[u64],
-    keys: &mut [u64],
+    low: &mut [u64],
+    high: &mut [u64],
     left: &mut [u16],
     right: &mut [u16],
     words: &mut [u64],
@@ -164,12 +170,13 @@ pub fn next_words(
     padded: &mut [u64],
     result: &mut [u64],
 ) -> u64
-    ensures { λ r. ⌜ NextCall (now (catalogue .entry)) (now (cells .entry)) (now (keys .entry)) (now (left .entry)) (now (right .entry)) (now (words .entry)) budget (now (padded .entry)) (now (result .entry)) r (now (keys .exit)) (now (left .exit)) (now (right .exit)) (now (words .exit)) (now (padded .exit)) (now (result .exit)) ⌝ }
+    ensures { λ r. ⌜ NextCall (now (catalogue .entry)) (now (cells .entry)) (now (low .entry)) (now (high .entry)) (now (left .entry)) (now (right .entry)) (now (words .entry)) budget (now (padded .entry)) (now (result .entry)) r (now (low .exit)) (now (high .exit)) (now (left .exit)) (now (right .exit)) (now (words .exit)) (now (padded .exit)) (now (result .exit)) ⌝ }
 {
     abi::streams::harbour_next(
         catalogue,
         cells,
-        keys,
+        low,
+        high,
         left,
         right,
         words,
@@ -183,23 +190,25 @@ pub fn next_words(
 pub fn open_holding_words(
     catalogue: &[u64],
     cells: &[u64],
-    keys: &mut [u64],
+    low: &mut [u64],
+    high: &mut [u64],
     left: &mut [u16],
     right: &mut [u16],
     table: u64,
     row: u64,
     words: &mut [u64],
 ) -> u64
-    ensures { λ r. ⌜ OpenHoldingCall (now (catalogue .entry)) (now (cells .entry)) (now (keys .entry)) (now (left .entry)) (now (right .entry)) table row (now (words .entry)) r (now (keys .exit)) (now (left .exit)) (now (right .exit)) (now (words .exit)) ⌝ }
+    ensures { λ r. ⌜ OpenHoldingCall (now (catalogue .entry)) (now (cells .entry)) (now (low .entry)) (now (high .entry)) (now (left .entry)) (now (right .entry)) table row (now (words .entry)) r (now (low .exit)) (now (high .exit)) (now (left .exit)) (now (right .exit)) (now (words .exit)) ⌝ }
 {
-    abi::streams::harbour_open_holding(catalogue, cells, keys, left, right, table, row, words)
+    abi::streams::harbour_open_holding(catalogue, cells, low, high, left, right, table, row, words)
 }
 
 // Calls `abi::streams::harbour_next_holding`.
 pub fn next_holding_words(
     catalogue: &[u64],
     cells: &[u64],
-    keys: &mut [u64],
+    low: &mut [u64],
+    high: &mut [u64],
     left: &mut [u16],
     right: &mut [u16],
     words: &mut [u64],
@@ -207,12 +216,13 @@ pub fn next_holding_words(
     padded: &mut [u64],
     result: &mut [u64],
 ) -> u64
-    ensures { λ r. ⌜ NextHoldingCall (now (catalogue .entry)) (now (cells .entry)) (now (keys .entry)) (now (left .entry)) (now (right .entry)) (now (words .entry)) budget (now (padded .entry)) (now (result .entry)) r (now (keys .exit)) (now (left .exit)) (now (right .exit)) (now (words .exit)) (now (padded .exit)) (now (result .exit)) ⌝ }
+    ensures { λ r. ⌜ NextHoldingCall (now (catalogue .entry)) (now (cells .entry)) (now (low .entry)) (now (high .entry)) (now (left .entry)) (now (right .entry)) (now (words .entry)) budget (now (padded .entry)) (now (result .entry)) r (now (low .exit)) (now (high .exit)) (now (left .exit)) (now (right .exit)) (now (words .exit)) (now (padded .exit)) (now (result .exit)) ⌝ }
 {
     abi::streams::harbour_next_holding(
         catalogue,
         cells,
-        keys,
+        low,
+        high,
         left,
         right,
         words,
@@ -230,15 +240,26 @@ pub fn covers_words(first: &[u64], second: &[u64]) -> u64
 }
 
 // Calls `harbour::check_list`.
-pub fn check_list(cat: Catalogue, cells: &[u64], listed: &[u64]) -> ListVerdict
-    ensures { λ r. ⌜ ChecksList cat (now (cells .entry)) (now (listed .entry)) r ⌝ }
+pub fn check_list(
+    cat: Catalogue,
+    cells: &[u64],
+    listed_low: &[u64],
+    listed_high: &[u64],
+) -> ListVerdict
+    ensures { λ r. ⌜ ChecksList cat (now (cells .entry)) (now («listed_low» .entry)) (now («listed_high» .entry)) r ⌝ }
 {
-    harbour::check_list(cat, cells, listed)
+    harbour::check_list(cat, cells, listed_low, listed_high)
 }
 
 // Calls `abi::lists::harbour_check_list`.
-pub fn check_list_words(catalogue: &[u64], cells: &[u64], listed: &[u64], result: &mut [u64]) -> u64
-    ensures { λ r. ⌜ ListCall (now (catalogue .entry)) (now (cells .entry)) (now (listed .entry)) (now (result .entry)) r (now (result .exit)) ⌝ }
+pub fn check_list_words(
+    catalogue: &[u64],
+    cells: &[u64],
+    listed_low: &[u64],
+    listed_high: &[u64],
+    result: &mut [u64],
+) -> u64
+    ensures { λ r. ⌜ ListCall (now (catalogue .entry)) (now (cells .entry)) (now («listed_low» .entry)) (now («listed_high» .entry)) (now (result .entry)) r (now (result .exit)) ⌝ }
 {
-    abi::lists::harbour_check_list(catalogue, cells, listed, result)
+    abi::lists::harbour_check_list(catalogue, cells, listed_low, listed_high, result)
 }

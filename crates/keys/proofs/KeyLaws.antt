@@ -61,7 +61,8 @@ row-other w k t r u h n = go (decLt u t)
     go (yes l) = row-below w k t r u l
     go (no g) = row-above w k t r u h (omega (arith, n))
 
-cat-lt : (j k a b : ℕ) → a < 2 ^ j → b < 2 ^ k → a * 2 ^ k + b < 2 ^ (j + k)
+-- Two numbers of j and k bits, the first on top of the second.
+pub cat-lt : (j k a b : ℕ) → a < 2 ^ j → b < 2 ^ k → a * 2 ^ k + b < 2 ^ (j + k)
 cat-lt j k a b ha hb = omega (arith, mul-le-mul-right (2 ^ k) ha, suc-mul a (2 ^ k), pow-add 2 j k)
 
 -- A number of w bits put on top of a key of n rows makes one of n + 1 rows.

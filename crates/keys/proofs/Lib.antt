@@ -1,2 +1,4 @@
 pub mod KeyLaws
+pub mod TwoWordLaws
 pub mod SetLaws
+pub mod Sample

@@ -1,13 +1,14 @@
 -- A row set as a number, over the bits w that a row number has in it. A set is the list of its row numbers, that of table i at place i, 0 for none.
--- What follows from them stands in proofs/KeyLaws (a key's rows and bits) and proofs/SetLaws (a set and its key). Assumes nothing.
+-- What follows from them stands in proofs/KeyLaws (a key's rows and bits) and proofs/SetLaws (a set and its key). How the number lies in two words is
+-- in specs/TwoWords. Assumes nothing.
 use Prim.Native.Nat.{ℕ, _+_, _*_, _/_, _%_, _^_, _<_}
 use mathlib.Core.List.{List, [], _∷_}
 use lib.ListN.{getD}
 use Rattle.laws.specs.Lists.{tab}
 
--- "The key of a set is a 64-bit number whose byte i, lowest first, holds the row number of table i, or 0."
+-- "Row numbers grow to twelve bits" (#110). Those of table i lie above those of the tables before it, and are 0 where the set has no row of it.
 abbrev pub bitsPerRow : ℕ
-bitsPerRow = 8
+bitsPerRow = 12
 
 -- "Tables n: 1 to 8, numbered from 0."
 abbrev pub mostTables : ℕ

@@ -6,8 +6,10 @@ ghost use Prim.Native.Nat.{_+_, _*_, _≤_};
 ghost use lib.ListN.{length, take};
 ghost use Rattle.laws.specs.Lists.{Placed};
 ghost use Rattle.keys.specs.Keys.{bitsPerRow, mostTables, rowsIn};
+ghost use Rattle.keys.specs.TwoWords.{numberOf};
 ghost use Rattle.lines.specs.Decimals.{mostDigits, decimal, goesOn, wordOf};
 ghost use Rattle.lines.specs.Lines.{mostField, setRoom, field, value, fields, values, line, paddedEnd, setLine};
+use keys::Key;
 
 // What a word says: a number in decimal digits, or something else.
 pub enum Word {
@@ -104,9 +106,9 @@ fn put_fields(numbers: &[u64], out: &mut [u8], start: usize) -> usize
 }
 
 // Puts the row numbers of a set among n tables as fields; a table without a row in it has 0.
-fn put_rows(key: u64, n: usize, out: &mut [u8], start: usize) -> usize
+fn put_rows(key: Key, n: usize, out: &mut [u8], start: usize) -> usize
     requires { ⌜ (n ≤ mostTables) × (start + mostField * n ≤ length (now out)) ⌝ }
-    ensures { λ r. ⌜ Placed (fields (rowsIn bitsPerRow n key)) start (now (out .entry)) r (now (out .exit)) ⌝ }
+    ensures { λ r. ⌜ Placed (fields (rowsIn bitsPerRow n (numberOf key))) start (now (out .entry)) r (now (out .exit)) ⌝ }
 {
     let mut at = start;
     let mut t: usize = 0;
@@ -153,9 +155,9 @@ fn put_padded(padded: &[u64], m: usize, out: &mut [u8], at: usize) -> usize
 }
 
 // Puts the line of a set: its row numbers, a bar, and its padded row.
-pub fn put_set(key: u64, n: usize, padded: &[u64], m: usize, out: &mut [u8], at: usize) -> usize
+pub fn put_set(key: Key, n: usize, padded: &[u64], m: usize, out: &mut [u8], at: usize) -> usize
     requires { ⌜ (n ≤ mostTables) × (m ≤ length (now padded)) × (at + setRoom n m ≤ length (now out)) ⌝ }
-    ensures { λ r. ⌜ Placed (setLine (rowsIn bitsPerRow n key) (take m (now (padded .entry)))) at (now (out .entry)) r (now (out .exit)) ⌝ }
+    ensures { λ r. ⌜ Placed (setLine (rowsIn bitsPerRow n (numberOf key)) (take m (now (padded .entry)))) at (now (out .entry)) r (now (out .exit)) ⌝ }
 {
     let behind_word = put_word(b"set", out, at);
     let behind_rows = put_rows(key, n, out, behind_word);

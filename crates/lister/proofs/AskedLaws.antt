@@ -19,13 +19,13 @@ use Rattle.lister.proofs.ListingLaws.{blank-length, text-opened, text-r
 
 module _ (cat : Catalogue) (cells : List ℕ) (w : Lawful cat mostCells) (l : length cells ≡ mostCells) where
   abbrev first : Asked → Opened
-  first a = openingFor cat cells a (blank mostRecords) (blank mostRecords) (blank mostRecords)
+  first a = openingFor cat cells a (blank mostRecords) (blank mostRecords) (blank mostRecords) (blank mostRecords)
 
   abbrev none : Store
-  none = storeIn (blank mostRecords) (blank mostRecords) (blank mostRecords) 0
+  none = storeIn (blank mostRecords) (blank mostRecords) (blank mostRecords) (blank mostRecords) 0
 
   refuses : (a : Asked) → first a .refusal ≡ openFault cat mostCells a none
-  refuses a = opening-says cat cells a (blank mostRecords) (blank mostRecords) (blank mostRecords) ∙ ap (λ (n : ℕ). openFault cat n a none) l
+  refuses a = opening-says cat cells a (blank mostRecords) (blank mostRecords) (blank mostRecords) (blank mostRecords) ∙ ap (λ (n : ℕ). openFault cat n a none) l
 
   room : 0 < roomIn none
   unfolding blank

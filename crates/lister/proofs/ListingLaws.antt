@@ -10,6 +10,7 @@ use borrow.Author.Tests.{lt-ltb, le-ltb}
 use Rattle.laws.specs.Lists.{Placed}
 use Rattle.laws.proofs.PlacedLaws.{placed-length, placed-front}
 use Rattle.laws.proofs.ListLaws.{put-nil}
+use Rattle.keys.specs.TwoWords.{numberOf}
 use Rattle.tables.specs.declared.Catalogue.{Catalogue}
 use Rattle.tables.specs.Sizes.{mostAttributes, mostCells}
 use Rattle.tables.specs.Catalogues.{total}
@@ -106,7 +107,7 @@ module _ (cat : Catalogue) (cells : List ℕ) where
       ∙ ap (λ (rest : List ℕ). take at lent ++ rest) (sym (lines-more k q row a t l s z e))
 
   -- The text behind an open that gave o.
-  module _ (a : Asked) (o : Opened) (e : o ≡ openingFor cat cells a (blank mostRecords) (blank mostRecords) (blank mostRecords)) where
+  module _ (a : Asked) (o : Opened) (e : o ≡ openingFor cat cells a (blank mostRecords) (blank mostRecords) (blank mostRecords) (blank mostRecords)) where
     abbrev rest : List ℕ
     rest = linesOf cat cells mostCalls (o .after) (blank mostAttributes) 0 0 0
 
@@ -139,15 +140,15 @@ pub said-small : (cat : Catalogue) (cells row : List ℕ) (b : ℕ) (q : State) 
 said-small cat cells row b q s e = rw e (call-small cat cells row b q)
 
 -- A call was made on a list that can go on, and its line put behind what the buffer held.
-module _ (p : Standing) (cells keys left right row out keys' left' right' row' out' : List ℕ) (r : SteppedFor) (b k n : ℕ)
+module _ (p : Standing) (cells low high left right row out low' high' left' right' row' out' : List ℕ) (r : SteppedFor) (b k n : ℕ)
     (some : 0 < p .calls)
     (w : Ready p cells row)
     (room : p .filled + mostLine ≤ length out)
     (wide : length row' ≡ length row)
     (budget : b ≡ total (p .catalogue))
-    (called : StepsFor (p .scope) (p .catalogue) cells keys left right (p .stream) b row r keys' left' right' row')
+    (called : StepsFor (p .scope) (p .catalogue) cells low high left right (p .stream) b row r low' high' left' right' row')
     (left-over : k ≡ leftOf (saysOf (r .answer .answer)) (p .calls - 1))
-    (line : Placed (lineOf (p .catalogue) (saysOf (r .answer .answer)) (r .answer .key) row' (r .answer .stream .taken) (p .trials + r .answer .trials) (p .tests + r .answer .tests) (p .looks + r .answer .looks)) (p .filled) out n out')
+    (line : Placed (lineOf (p .catalogue) (saysOf (r .answer .answer)) (numberOf (r .answer .key)) row' (r .answer .stream .taken) (p .trials + r .answer .trials) (p .tests + r .answer .tests) (p .looks + r .answer .looks)) (p .filled) out n out')
   where
     abbrev next : Standing
     next =
@@ -163,14 +164,14 @@ module _ (p : Standing) (cells keys left right row out keys' left' right' row' o
         }
 
     abbrev s : Called
-    s = calledWith (askedOf (r .scope)) (r .answer) keys' left' right' row'
+    s = calledWith (askedOf (r .scope)) (r .answer) low' high' left' right' row'
 
     fewer : k < p .calls
     fewer = omega (arith, left-few (saysOf (r .answer .answer)) (p .calls - 1))
 
     goes : Ready next cells row'
     goes =
-        let u = said-small (p .catalogue) cells row b (stateWith (askedOf (p .scope)) (p .stream) keys left right) s called in
+        let u = said-small (p .catalogue) cells row b (stateWith (askedOf (p .scope)) (p .stream) low high left right) s called in
         let v = left-few (saysOf (r .answer .answer)) (p .calls - 1) in
         record {
           lawful = w .lawful;
@@ -182,14 +183,14 @@ module _ (p : Standing) (cells keys left right row out keys' left' right' row' o
           looks = omega (arith, w .calls, w .looks, u .looks);
         }
 
-    pub turn-gives : (k < p .calls) × Gives (textFrom p cells keys left right row out) next cells keys' left' right' row' out'
+    pub turn-gives : (k < p .calls) × Gives (textFrom p cells low high left right row out) next cells low' high' left' right' row' out'
     turn-gives =
         let e = rw budget at called in
         let g = wide ∙ w .wide in
         let h = line-short (p .catalogue) cells (s .says) (s .key) (s .row) (s .after .taken) (p .trials + s .trials) (p .tests + s .tests) (p .looks + s .looks) (w .lawful) g in (
           fewer,
           record {
-            same = rw left-over (turned (p .catalogue) cells (p .calls) (stateWith (askedOf (p .scope)) (p .stream) keys left right) row (p .trials) (p .tests) (p .looks) s some e (w .lawful) g room line);
+            same = rw left-over (turned (p .catalogue) cells (p .calls) (stateWith (askedOf (p .scope)) (p .stream) low high left right) row (p .trials) (p .tests) (p .looks) s some e (w .lawful) g room line);
             filled = omega (arith, line .next, placed-length (omega arith) line);
             ready = λ z. goes;
           },
@@ -209,53 +210,53 @@ ready-filled n w =
     }
 
 -- What a list gives that gives a text, gives that text.
-pub gives-on : {text : List ℕ} {r s : Standing} {cells keys left right row out keys' left' right' row' out' : List ℕ} → Gives text r cells keys left right row out
-    → Gives (textFrom r cells keys left right row out) s cells keys' left' right' row' out' → Gives text s cells keys' left' right' row' out'
+pub gives-on : {text : List ℕ} {r s : Standing} {cells low high left right row out low' high' left' right' row' out' : List ℕ} → Gives text r cells low high left right row out
+    → Gives (textFrom r cells low high left right row out) s cells low' high' left' right' row' out' → Gives text s cells low' high' left' right' row' out'
 gives-on g h = record { same = h .same ∙ g .same; filled = h .filled; ready = h .ready }
 
 -- Tables were loaded and opened, and the first line put into the buffer.
-pub open-gives : {n : ℕ} {lent after : List ℕ} (v : Scope) (cat : Catalogue) (cells keys left right : List ℕ) (r : OpenedFor) → Lawful cat mostCells → length cells ≡ mostCells
-    → OpensFor v cat cells (blank mostRecords) (blank mostRecords) (blank mostRecords) r keys left right → r .answer .refusal ≡ 0
+pub open-gives : {n : ℕ} {lent after : List ℕ} (v : Scope) (cat : Catalogue) (cells low high left right : List ℕ) (r : OpenedFor) → Lawful cat mostCells → length cells ≡ mostCells
+    → OpensFor v cat cells (blank mostRecords) (blank mostRecords) (blank mostRecords) (blank mostRecords) r low high left right → r .answer .refusal ≡ 0
     → mostLine ≤ length lent → Placed (tablesLine (cat .m) (cat .n) (total cat) (r .answer .tests)) 0 lent n after
-    → Gives (tablesText cat cells (askedOf v)) (record { catalogue = cat; scope = r .scope; stream = r .answer .stream; trials = 0; tests = 0; looks = 0; calls = mostCalls; filled = n }) cells keys left right (blank mostAttributes) after
-open-gives {n} {lent} {after} v cat cells keys left right r w z e g h p =
+    → Gives (tablesText cat cells (askedOf v)) (record { catalogue = cat; scope = r .scope; stream = r .answer .stream; trials = 0; tests = 0; looks = 0; calls = mostCalls; filled = n }) cells low high left right (blank mostAttributes) after
+open-gives {n} {lent} {after} v cat cells low high left right r w z e g h p =
     let b = line-few (bytes "tables") (cat .m ∷ cat .n ∷ total cat ∷ r .answer .tests ∷ []) in
     record {
-      same = opened cat cells (askedOf v) (openedWith (askedOf (r .scope)) (r .answer) keys left right) e g h p;
+      same = opened cat cells (askedOf v) (openedWith (askedOf (r .scope)) (r .answer) low high left right) e g h p;
       filled = omega (arith, p .next, placed-length (omega arith) p);
       ready = λ _. record { lawful = w; lent = z; wide = blank-length mostAttributes; calls = omega arith; trials = omega arith; tests = omega arith; looks = omega arith };
     }
 
 -- All of a text is in the buffer, and nothing is still to come.
-pub ended-gives : {bs lent after : List ℕ} (r : Standing) (cells keys left right row : List ℕ) (n : ℕ) → r .calls ≡ 0 → r .filled ≡ n → length bs ≤ length lent
-    → Placed bs 0 lent n after → Gives bs r cells keys left right row after
-ended-gives {bs} {lent} {after} r cells keys left right row n e f h p =
+pub ended-gives : {bs lent after : List ℕ} (r : Standing) (cells low high left right row : List ℕ) (n : ℕ) → r .calls ≡ 0 → r .filled ≡ n → length bs ≤ length lent
+    → Placed bs 0 lent n after → Gives bs r cells low high left right row after
+ended-gives {bs} {lent} {after} r cells low high left right row n e f h p =
     record {
-      same = rw (lines-none (r .catalogue) cells (r .calls) (stateWith (askedOf (r .scope)) (r .stream) keys left right) row (r .trials) (r .tests) (r .looks) e, f) (whole h p);
+      same = rw (lines-none (r .catalogue) cells (r .calls) (stateWith (askedOf (r .scope)) (r .stream) low high left right) row (r .trials) (r .tests) (r .looks) e, f) (whole h p);
       filled = omega (arith, p .next, placed-length (omega arith) p);
       ready = λ z. absurd (omega arith);
     }
 
 -- Tables were loaded and not opened, and the line of the refusal put into the buffer.
-pub refused-gives : {n : ℕ} {lent after : List ℕ} (v : Scope) (cat : Catalogue) (cells keys left right : List ℕ) (r : OpenedFor) (s : Standing)
-    → OpensFor v cat cells (blank mostRecords) (blank mostRecords) (blank mostRecords) r keys left right → 0 < r .answer .refusal
+pub refused-gives : {n : ℕ} {lent after : List ℕ} (v : Scope) (cat : Catalogue) (cells low high left right : List ℕ) (r : OpenedFor) (s : Standing)
+    → OpensFor v cat cells (blank mostRecords) (blank mostRecords) (blank mostRecords) (blank mostRecords) r low high left right → 0 < r .answer .refusal
     → mostLine ≤ length lent → s .calls ≡ 0 → s .filled ≡ n → Placed (refusedLine (r .answer .refusal ∷ [])) 0 lent n after
-    → Gives (tablesText cat cells (askedOf v)) s cells keys left right (blank mostAttributes) after
-refused-gives {n} {lent} {after} v cat cells keys left right r s e z h f g p =
+    → Gives (tablesText cat cells (askedOf v)) s cells low high left right (blank mostAttributes) after
+refused-gives {n} {lent} {after} v cat cells low high left right r s e z h f g p =
     let b = line-few (bytes "refused") (r .answer .refusal ∷ []) in
-    rw (text-refused cat cells (askedOf v) (openedWith (askedOf (r .scope)) (r .answer) keys left right) e z)
-    (ended-gives s cells keys left right (blank mostAttributes) n f g (omega arith) p)
+    rw (text-refused cat cells (askedOf v) (openedWith (askedOf (r .scope)) (r .answer) low high left right) e z)
+    (ended-gives s cells low high left right (blank mostAttributes) n f g (omega arith) p)
 
 -- Nothing has been written yet.
-pub printing-first : {text : List ℕ} {p : Standing} {cells keys left right row out : List ℕ} → Gives text p cells keys left right row out
-    → Printing (textFrom p cells keys left right row out) [] p cells keys left right row out
+pub printing-first : {text : List ℕ} {p : Standing} {cells low high left right row out : List ℕ} → Gives text p cells low high left right row out
+    → Printing (textFrom p cells low high left right row out) [] p cells low high left right row out
 printing-first g = record { whole = refl; filled = g .filled; ready = g .ready }
 
 -- What the buffer held has been written, and it was filled again.
-pub printing-next : {text w : List ℕ} {p r : Standing} {cells keys left right row out keys' left' right' row' out' : List ℕ}
-    → Printing text w p cells keys left right row out → Gives (toCome p cells keys left right row) r cells keys' left' right' row' out'
-    → Printing text (w ++ take (p .filled) out) r cells keys' left' right' row' out'
-printing-next {text} {w} {p} {r} {cells} {keys} {left} {right} {row} {out} i g =
+pub printing-next : {text w : List ℕ} {p r : Standing} {cells low high left right row out low' high' left' right' row' out' : List ℕ}
+    → Printing text w p cells low high left right row out → Gives (toCome p cells low high left right row) r cells low' high' left' right' row' out'
+    → Printing text (w ++ take (p .filled) out) r cells low' high' left' right' row' out'
+printing-next {text} {w} {p} {r} {cells} {low} {high} {left} {right} {row} {out} i g =
     record {
       whole = append-assoc w (take (p .filled) out) _ ∙ ap (λ (rest : List ℕ). w ++ (take (p .filled) out ++ rest)) (g .same) ∙ i .whole;
       filled = g .filled;

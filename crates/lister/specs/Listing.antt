@@ -8,14 +8,14 @@ use lib.ListN.{length, take, replicate}
 use lib.Dec.{ltb}
 use Rattle.keys.specs.Keys.{bitsPerRow, rowsIn}
 use Rattle.tables.specs.declared.Catalogue.{Catalogue}
-use Rattle.tables.specs.Sizes.{mostAttributes, mostTables, mostCells}
+use Rattle.tables.specs.Sizes.{mostAttributes, mostTables, mostCells, mostTotal}
 use Rattle.tables.specs.Catalogues.{total}
 use Rattle.tables.specs.Checks.{Lawful}
 use Rattle.loader.specs.declared.Verdict.{Verdict}
 use Rattle.loader.specs.declared.Verdict.the-variants.{Good, Refused}
 use Rattle.loader.specs.Load.{firstTable, scanOf, tablesCodes, cellsAfter}
 use Rattle.disjunction.specs.Asked.{Asked}
-use Rattle.machine.specs.Machine.{State, Says, aSet, finished, working, refused, call, openingFor}
+use Rattle.machine.specs.Machine.{mostTests, mostLooks, State, Says, aSet, finished, working, refused, call, openingFor}
 use Rattle.stream.specs.declared.StreamRecord.{StreamRecord}
 use Rattle.stream.specs.Promises.{askedOf, stateWith, calledWith, openedWith}
 use Rattle.lines.specs.Lines.{tablesLine, setLine, endLine, refusedLine, tooLong, setRoom}
@@ -83,7 +83,7 @@ module _ (cat : Catalogue) (cells : List ℕ) where
   -- "First line: `tables`, m, n, N, open's row tests." Then the sets that are asked for, and the last line. A row that is not there has no list.
   unfoldable pub tablesText : Asked → List ℕ
   tablesText a =
-      let o = openingFor cat cells a (blank mostRecords) (blank mostRecords) (blank mostRecords) in
+      let o = openingFor cat cells a (blank mostRecords) (blank mostRecords) (blank mostRecords) (blank mostRecords) in
       unlessRefused (o .refusal)
       (tablesLine (cat .m) (cat .n) (total cat) (o .tests) ++ linesOf mostCalls (o .after) (blank mostAttributes) 0 0 0)
 
@@ -106,26 +106,27 @@ module _ (a : Asked) where
 -- ---- open and a call, of the stream that is asked for
 
 -- Open, of the stream of every set or of those that hold a row; and what the stream is asked for from then on.
-abbrev pub OpensFor : Scope → Catalogue → List ℕ → List ℕ → List ℕ → List ℕ → OpenedFor → List ℕ → List ℕ → List ℕ → Type 0
-OpensFor v cat cells keys left right r keys′ left′ right′ =
-    openedWith (askedOf (r .scope)) (r .answer) keys′ left′ right′ ≡ openingFor cat cells (askedOf v) keys left right
+abbrev pub OpensFor : Scope → Catalogue → List ℕ → List ℕ → List ℕ → List ℕ → List ℕ → OpenedFor → List ℕ → List ℕ → List ℕ → List ℕ → Type 0
+OpensFor v cat cells low high left right r low′ high′ left′ right′ =
+    openedWith (askedOf (r .scope)) (r .answer) low′ high′ left′ right′ ≡ openingFor cat cells (askedOf v) low high left right
 
 -- A call of such a stream.
 abbrev pub StepsFor :
-    Scope → Catalogue → List ℕ → List ℕ → List ℕ → List ℕ → StreamRecord → ℕ → List ℕ → SteppedFor → List ℕ → List ℕ → List ℕ → List ℕ → Type 0
-StepsFor v cat cells keys left right s budget row r keys′ left′ right′ row′ =
-    calledWith (askedOf (r .scope)) (r .answer) keys′ left′ right′ row′ ≡ call cat cells budget (stateWith (askedOf v) s keys left right) row
+    Scope → Catalogue → List ℕ → List ℕ → List ℕ → List ℕ → List ℕ → StreamRecord → ℕ → List ℕ → SteppedFor → List ℕ → List ℕ → List ℕ → List ℕ → List ℕ
+    → Type 0
+StepsFor v cat cells low high left right s budget row r low′ high′ left′ right′ row′ =
+    calledWith (askedOf (r .scope)) (r .answer) low′ high′ left′ right′ row′ ≡ call cat cells budget (stateWith (askedOf v) s low high left right) row
 
 -- ---- where the program stands
 
 -- The lines that are still to come from where a list stands.
-abbrev pub toCome : Standing → List ℕ → List ℕ → List ℕ → List ℕ → List ℕ → List ℕ
-toCome p cells keys left right row =
-    linesOf (p .catalogue) cells (p .calls) (stateWith (askedOf (p .scope)) (p .stream) keys left right) row (p .trials) (p .tests) (p .looks)
+abbrev pub toCome : Standing → List ℕ → List ℕ → List ℕ → List ℕ → List ℕ → List ℕ → List ℕ
+toCome p cells low high left right row =
+    linesOf (p .catalogue) cells (p .calls) (stateWith (askedOf (p .scope)) (p .stream) low high left right) row (p .trials) (p .tests) (p .looks)
 
 -- What the buffer holds and has not been written, and the lines that are still to come.
-abbrev pub textFrom : Standing → List ℕ → List ℕ → List ℕ → List ℕ → List ℕ → List ℕ → List ℕ
-textFrom p cells keys left right row out = take (p .filled) out ++ toCome p cells keys left right row
+abbrev pub textFrom : Standing → List ℕ → List ℕ → List ℕ → List ℕ → List ℕ → List ℕ → List ℕ → List ℕ
+textFrom p cells low high left right row out = take (p .filled) out ++ toCome p cells low high left right row
 
 -- Where it stands when its buffer is filled up to n, and all else is as it was.
 abbrev pub filledTo : Standing → ℕ → Standing
@@ -147,18 +148,18 @@ pub record Ready (p : Standing) (cells row : List ℕ) : Type 0 where
   pub lent : length cells ≡ mostCells
   pub wide : length row ≡ mostAttributes
   pub calls : p .calls ≤ mostCalls
-  pub trials : p .trials ≤ (mostCalls - p .calls) * 2040
-  pub tests : p .tests ≤ (mostCalls - p .calls) * (2040 * (8 * 2040))
-  pub looks : p .looks ≤ (mostCalls - p .calls) * (2040 * 65)
+  pub trials : p .trials ≤ (mostCalls - p .calls) * mostTotal
+  pub tests : p .tests ≤ (mostCalls - p .calls) * (mostTotal * mostTests)
+  pub looks : p .looks ≤ (mostCalls - p .calls) * (mostTotal * mostLooks)
 
 -- A call of the lister gives this text: what the buffer then holds, and the lines that are still to come; and the list can go on.
-pub record Gives (text : List ℕ) (r : Standing) (cells keys left right row out : List ℕ) : Type 0 where
-  pub same : textFrom r cells keys left right row out ≡ text
+pub record Gives (text : List ℕ) (r : Standing) (cells low high left right row out : List ℕ) : Type 0 where
+  pub same : textFrom r cells low high left right row out ≡ text
   pub filled : r .filled ≤ length out
   pub ready : 0 < r .calls → Ready r cells row
 
 -- w has been written, and with what the buffer holds and what is still to come it is the whole text; and the list can go on.
-pub record Printing (text w : List ℕ) (p : Standing) (cells keys left right row out : List ℕ) : Type 0 where
-  pub whole : w ++ textFrom p cells keys left right row out ≡ text
+pub record Printing (text w : List ℕ) (p : Standing) (cells low high left right row out : List ℕ) : Type 0 where
+  pub whole : w ++ textFrom p cells low high left right row out ≡ text
   pub filled : p .filled ≤ length out
   pub ready : 0 < p .calls → Ready p cells row

@@ -100,20 +100,21 @@ pub fn print(
     scope: Scope,
     input: &[u8],
     cells: &mut [u64],
-    keys: &mut [u64],
+    low: &mut [u64],
+    high: &mut [u64],
     left: &mut [u16],
     right: &mut [u16],
 )
-    requires { ⌜ (now cells ≡ blank mostCells) × (now keys ≡ blank mostRecords) × (now left ≡ blank mostRecords) × (now right ≡ blank mostRecords) ⌝ }
+    requires { ⌜ (now cells ≡ blank mostCells) × (now low ≡ blank mostRecords) × (now high ≡ blank mostRecords) × (now left ≡ blank mostRecords) × (now right ≡ blank mostRecords) ⌝ }
 {
     let mut padded = [0u64; 63];
     let mut out = [0u8; 32768];
-    let mut p = text::first_lines(scope, input, cells, keys, left, right, &mut out);
+    let mut p = text::first_lines(scope, input, cells, low, high, left, right, &mut out);
     while 0 < p.calls {
         if !written(&out, p.filled) {
             return;
         }
-        p = text::more_lines(p, cells, keys, left, right, &mut padded, &mut out);
+        p = text::more_lines(p, cells, low, high, left, right, &mut padded, &mut out);
     }
     written(&out, p.filled);
 }

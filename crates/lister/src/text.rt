@@ -9,6 +9,7 @@ ghost use Rattle.tables.specs.Checks.{Lawful};
 ghost use Rattle.stream.specs.declared.Scope.the-variants.{With};
 ghost use Rattle.stream.specs.Promises.{askedOf, saysOf};
 ghost use Rattle.lines.specs.Lines.{tablesLine, endLine, refusedLine};
+ghost use Rattle.keys.specs.TwoWords.{numberOf};
 ghost use Rattle.lister.specs.Listing.{mostRecords, blank, mostLine, lineOf, leftOf, tablesText, listingOf, OpensFor, StepsFor, toCome, textFrom, filledTo, Ready, Gives};
 use crate::OpenedFor;
 use crate::Standing;
@@ -16,6 +17,7 @@ use crate::SteppedFor;
 use harbour::Answer;
 use harbour::Catalogue;
 use harbour::HoldingRecord;
+use harbour::Key;
 use harbour::OpenAnswer;
 use harbour::StepAnswer;
 use harbour::StreamRecord;
@@ -60,9 +62,9 @@ fn put_end(
 
 // Puts the line of what a call answered behind what the buffer holds, with the counts of all calls so far.
 // The sets handed out are those that the stream's record has taken.
-fn put_answer(p: Standing, answer: Answer, key: u64, padded: &[u64], out: &mut [u8]) -> usize
+fn put_answer(p: Standing, answer: Answer, key: Key, padded: &[u64], out: &mut [u8]) -> usize
     requires { ⌜ Lawful (p .catalogue) mostCells × (length (now padded) ≡ mostAttributes) × (p .filled + mostLine ≤ length (now out)) ⌝ }
-    ensures { λ r. ⌜ Placed (lineOf (p .catalogue) (saysOf answer) key (now (padded .entry)) (p .stream .taken) (p .trials) (p .tests) (p .looks)) (p .filled) (now (out .entry)) r (now (out .exit)) ⌝ }
+    ensures { λ r. ⌜ Placed (lineOf (p .catalogue) (saysOf answer) (numberOf key) (now (padded .entry)) (p .stream .taken) (p .trials) (p .tests) (p .looks)) (p .filled) (now (out .entry)) r (now (out .exit)) ⌝ }
 {
     let at = p.filled;
     let sets = p.stream.taken;
@@ -92,15 +94,16 @@ fn open_for(
     scope: Scope,
     cat: Catalogue,
     cells: &[u64],
-    keys: &mut [u64],
+    low: &mut [u64],
+    high: &mut [u64],
     left: &mut [u16],
     right: &mut [u16],
 ) -> OpenedFor
-    ensures { λ r. ⌜ OpensFor scope cat (now (cells .entry)) (now (keys .entry)) (now (left .entry)) (now (right .entry)) r (now (keys .exit)) (now (left .exit)) (now (right .exit)) ⌝ }
+    ensures { λ r. ⌜ OpensFor scope cat (now (cells .entry)) (now (low .entry)) (now (high .entry)) (now (left .entry)) (now (right .entry)) r (now (low .exit)) (now (high .exit)) (now (left .exit)) (now (right .exit)) ⌝ }
 {
     match scope {
         Scope::Every => {
-            let answer = harbour::open(cat, cells, keys, left, right);
+            let answer = harbour::open(cat, cells, low, high, left, right);
             let every = Scope::Every;
             OpenedFor {
                 answer: answer,
@@ -108,7 +111,7 @@ fn open_for(
             }
         }
         Scope::With(table, row) => {
-            let o = harbour::open_holding(cat, cells, keys, left, right, table, row);
+            let o = harbour::open_holding(cat, cells, low, high, left, right, table, row);
             let held = o.stream;
             let stream = held.stream;
             let answer = OpenAnswer {
@@ -131,27 +134,29 @@ fn step_with(
     row: usize,
     cat: Catalogue,
     cells: &[u64],
-    keys: &mut [u64],
+    low: &mut [u64],
+    high: &mut [u64],
     left: &mut [u16],
     right: &mut [u16],
     stream: StreamRecord,
     budget: usize,
     padded: &mut [u64],
 ) -> SteppedFor
-    ensures { λ r. ⌜ StepsFor (With table row) cat (now (cells .entry)) (now (keys .entry)) (now (left .entry)) (now (right .entry)) stream budget (now (padded .entry)) r (now (keys .exit)) (now (left .exit)) (now (right .exit)) (now (padded .exit)) ⌝ }
+    ensures { λ r. ⌜ StepsFor (With table row) cat (now (cells .entry)) (now (low .entry)) (now (high .entry)) (now (left .entry)) (now (right .entry)) stream budget (now (padded .entry)) r (now (low .exit)) (now (high .exit)) (now (left .exit)) (now (right .exit)) (now (padded .exit)) ⌝ }
 {
     let before = HoldingRecord {
         stream: stream,
         table: table,
         row: row,
     };
-    let s = harbour::step_holding(cat, cells, keys, left, right, before, budget, padded);
+    let s = harbour::step_holding(cat, cells, low, high, left, right, before, budget, padded);
     let said = s.answer;
+    let key = s.key;
     let held = s.stream;
     let after = held.stream;
     let answer = StepAnswer {
         answer: said,
-        key: s.key,
+        key,
         trials: s.trials,
         tests: s.tests,
         looks: s.looks,
@@ -169,18 +174,19 @@ fn step_for(
     scope: Scope,
     cat: Catalogue,
     cells: &[u64],
-    keys: &mut [u64],
+    low: &mut [u64],
+    high: &mut [u64],
     left: &mut [u16],
     right: &mut [u16],
     stream: StreamRecord,
     budget: usize,
     padded: &mut [u64],
 ) -> SteppedFor
-    ensures { λ r. ⌜ StepsFor scope cat (now (cells .entry)) (now (keys .entry)) (now (left .entry)) (now (right .entry)) stream budget (now (padded .entry)) r (now (keys .exit)) (now (left .exit)) (now (right .exit)) (now (padded .exit)) ⌝ }
+    ensures { λ r. ⌜ StepsFor scope cat (now (cells .entry)) (now (low .entry)) (now (high .entry)) (now (left .entry)) (now (right .entry)) stream budget (now (padded .entry)) r (now (low .exit)) (now (high .exit)) (now (left .exit)) (now (right .exit)) (now (padded .exit)) ⌝ }
 {
     match scope {
         Scope::Every => {
-            let answer = harbour::step(cat, cells, keys, left, right, stream, budget, padded);
+            let answer = harbour::step(cat, cells, low, high, left, right, stream, budget, padded);
             let every = Scope::Every;
             SteppedFor {
                 answer: answer,
@@ -193,7 +199,8 @@ fn step_for(
                 row,
                 cat,
                 cells,
-                keys,
+                low,
+                high,
                 left,
                 right,
                 stream,
@@ -209,14 +216,15 @@ fn step_for(
 fn turn(
     p: Standing,
     cells: &[u64],
-    keys: &mut [u64],
+    low: &mut [u64],
+    high: &mut [u64],
     left: &mut [u16],
     right: &mut [u16],
     padded: &mut [u64],
     out: &mut [u8],
 ) -> Standing
     requires { ⌜ (0 < p .calls) × Ready p (now cells) (now padded) × (p .filled + mostLine ≤ length (now out)) ⌝ }
-    ensures { λ r. ⌜ (r .calls < p .calls) × Gives (textFrom p (now (cells .entry)) (now (keys .entry)) (now (left .entry)) (now (right .entry)) (now (padded .entry)) (now (out .entry))) r (now (cells .entry)) (now (keys .exit)) (now (left .exit)) (now (right .exit)) (now (padded .exit)) (now (out .exit)) ⌝ }
+    ensures { λ r. ⌜ (r .calls < p .calls) × Gives (textFrom p (now (cells .entry)) (now (low .entry)) (now (high .entry)) (now (left .entry)) (now (right .entry)) (now (padded .entry)) (now (out .entry))) r (now (cells .entry)) (now (low .exit)) (now (high .exit)) (now (left .exit)) (now (right .exit)) (now (padded .exit)) (now (out .exit)) ⌝ }
 {
     let cat = p.catalogue;
     let total = tables::total_rows(cat);
@@ -225,7 +233,8 @@ fn turn(
         asked,
         cat,
         cells,
-        keys,
+        low,
+        high,
         left,
         right,
         p.stream,
@@ -255,21 +264,22 @@ fn turn(
 pub fn more_lines(
     p: Standing,
     cells: &[u64],
-    keys: &mut [u64],
+    low: &mut [u64],
+    high: &mut [u64],
     left: &mut [u16],
     right: &mut [u16],
     padded: &mut [u64],
     out: &mut [u8],
 ) -> Standing
     requires { ⌜ (0 < p .calls) × Ready p (now cells) (now padded) × (mostLine ≤ length (now out)) ⌝ }
-    ensures { λ r. ⌜ (r .calls < p .calls) × Gives (toCome p (now (cells .entry)) (now (keys .entry)) (now (left .entry)) (now (right .entry)) (now (padded .entry))) r (now (cells .entry)) (now (keys .exit)) (now (left .exit)) (now (right .exit)) (now (padded .exit)) (now (out .exit)) ⌝ }
+    ensures { λ r. ⌜ (r .calls < p .calls) × Gives (toCome p (now (cells .entry)) (now (low .entry)) (now (high .entry)) (now (left .entry)) (now (right .entry)) (now (padded .entry))) r (now (cells .entry)) (now (low .exit)) (now (high .exit)) (now (left .exit)) (now (right .exit)) (now (padded .exit)) (now (out .exit)) ⌝ }
 {
-    let mut s = turn(filled_to(p, 0), cells, keys, left, right, padded, out);
+    let mut s = turn(filled_to(p, 0), cells, low, high, left, right, padded, out);
     while 0 < s.calls {
         if out.len() - s.filled < MOST_LINE {
             return s;
         }
-        s = turn(s, cells, keys, left, right, padded, out);
+        s = turn(s, cells, low, high, left, right, padded, out);
     }
     s
 }
@@ -339,16 +349,17 @@ fn open_list(
     scope: Scope,
     cat: Catalogue,
     cells: &[u64],
-    keys: &mut [u64],
+    low: &mut [u64],
+    high: &mut [u64],
     left: &mut [u16],
     right: &mut [u16],
     out: &mut [u8],
 ) -> Standing
-    requires { ⌜ Lawful cat mostCells × (length (now cells) ≡ mostCells) × (now keys ≡ blank mostRecords) × (now left ≡ blank mostRecords) × (now right ≡ blank mostRecords) × (mostLine ≤ length (now out)) ⌝ }
-    ensures { λ r. ⌜ Gives (tablesText cat (now (cells .entry)) (askedOf scope)) r (now (cells .entry)) (now (keys .exit)) (now (left .exit)) (now (right .exit)) (blank mostAttributes) (now (out .exit)) ⌝ }
+    requires { ⌜ Lawful cat mostCells × (length (now cells) ≡ mostCells) × (now low ≡ blank mostRecords) × (now high ≡ blank mostRecords) × (now left ≡ blank mostRecords) × (now right ≡ blank mostRecords) × (mostLine ≤ length (now out)) ⌝ }
+    ensures { λ r. ⌜ Gives (tablesText cat (now (cells .entry)) (askedOf scope)) r (now (cells .entry)) (now (low .exit)) (now (high .exit)) (now (left .exit)) (now (right .exit)) (blank mostAttributes) (now (out .exit)) ⌝ }
 {
     let total = tables::total_rows(cat);
-    let opened = open_for(scope, cat, cells, keys, left, right);
+    let opened = open_for(scope, cat, cells, low, high, left, right);
     let asked = opened.scope;
     let o = opened.answer;
     let stream = o.stream;
@@ -373,13 +384,14 @@ pub fn first_lines(
     scope: Scope,
     input: &[u8],
     cells: &mut [u64],
-    keys: &mut [u64],
+    low: &mut [u64],
+    high: &mut [u64],
     left: &mut [u16],
     right: &mut [u16],
     out: &mut [u8],
 ) -> Standing
-    requires { ⌜ (now cells ≡ blank mostCells) × (now keys ≡ blank mostRecords) × (now left ≡ blank mostRecords) × (now right ≡ blank mostRecords) × (mostLine ≤ length (now out)) ⌝ }
-    ensures { λ r. ⌜ Gives (listingOf (askedOf scope) (now (input .entry))) r (now (cells .exit)) (now (keys .exit)) (now (left .exit)) (now (right .exit)) (blank mostAttributes) (now (out .exit)) ⌝ }
+    requires { ⌜ (now cells ≡ blank mostCells) × (now low ≡ blank mostRecords) × (now high ≡ blank mostRecords) × (now left ≡ blank mostRecords) × (now right ≡ blank mostRecords) × (mostLine ≤ length (now out)) ⌝ }
+    ensures { λ r. ⌜ Gives (listingOf (askedOf scope) (now (input .entry))) r (now (cells .exit)) (now (low .exit)) (now (high .exit)) (now (left .exit)) (now (right .exit)) (blank mostAttributes) (now (out .exit)) ⌝ }
 {
     if MOST_INPUT < input.len() {
         return ended(lines::put_word(b"input too long\n", out, 0));
@@ -387,7 +399,7 @@ pub fn first_lines(
     let loaded = harbour::load(input, cells);
     let verdict = loaded.verdict;
     match verdict {
-        Verdict::Good => open_list(scope, loaded.catalogue, cells, keys, left, right, out),
+        Verdict::Good => open_list(scope, loaded.catalogue, cells, low, high, left, right, out),
         Verdict::Refused(fault) => ended(put_refused(fault.refusal, fault.place, out, 0)),
     }
 }

@@ -16,14 +16,16 @@ fn main() {
 // Lists the input, in cells and a store of its own.
 fn list(input: &[u8]) {
     let mut cells = [0u64; 8192];
-    let mut keys = [0u64; 4096];
+    let mut low = [0u64; 4096];
+    let mut high = [0u64; 4096];
     let mut left = [0u16; 4096];
     let mut right = [0u16; 4096];
     lister::print(
         Scope::Every,
         input,
         &mut cells,
-        &mut keys,
+        &mut low,
+        &mut high,
         &mut left,
         &mut right,
     );

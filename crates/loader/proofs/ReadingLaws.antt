@@ -12,6 +12,7 @@ use Rattle.numbers.specs.Numbers.{decode}
 use Rattle.numbers.specs.declared.Reading.{Reading}
 use Rattle.numbers.specs.declared.Reading.the-variants.{Number, NumberFault}
 use Rattle.tables.specs.Rows.{below}
+use Rattle.tables.specs.Versions.{blank}
 use Rattle.loader.specs.declared.Fault.{Fault}
 use Rattle.loader.specs.declared.Walk.{Walk}
 use Rattle.loader.specs.declared.Walk.the-variants.{To, WalkFault}
@@ -48,27 +49,33 @@ codes-bad zero s i f c e = refl
 codes-bad (suc k) s i f c e = rw e
 
 -- one row more
-pub rows-none : (k w : ℕ) (s : List ℕ) (b : Bool) (p i : ℕ) → k ≤ 0 → rowsFrom k w s b p i ≡ To i
+pub rows-none : (k w : ℕ) (s : List ℕ) (v : ℕ) (b : Bool) (p i : ℕ) → k ≤ 0 → rowsFrom k w s v b p i ≡ To i
 unfolding rowsFrom
-rows-none zero w s b p i z = refl
-rows-none (suc k) w s b p i z = absurd (omega arith)
+rows-none zero w s v b p i z = refl
+rows-none (suc k) w s v b p i z = absurd (omega arith)
 
-pub rows-bad : (k w : ℕ) (s : List ℕ) (b : Bool) (p i : ℕ) (f : Fault) → 0 < k → runEnd w s i ≡ WalkFault f → rowsFrom k w s b p i ≡ WalkFault f
+pub rows-bad : (k w : ℕ) (s : List ℕ) (v : ℕ) (b : Bool) (p i : ℕ) (f : Fault) → 0 < k → runEnd w s i ≡ WalkFault f → rowsFrom k w s v b p i ≡ WalkFault f
 unfolding rowsFrom
-rows-bad zero w s b p i f z e = absurd (omega arith)
-rows-bad (suc k) w s b p i f z e = rw e
+rows-bad zero w s v b p i f z e = absurd (omega arith)
+rows-bad (suc k) w s v b p i f z e = rw e
 
-pub rows-more : (k w : ℕ) (s : List ℕ) (b : Bool) (p i n : ℕ) → 0 < k → runEnd w s i ≡ To n → (b || below (codes w s p) (codes w s i)) ≡ true
-    → rowsFrom k w s b p i ≡ rowsFrom (k - 1) w s false i n
+pub rows-blank : (k w : ℕ) (s : List ℕ) (v : ℕ) (b : Bool) (p i n : ℕ) → 0 < k → runEnd w s i ≡ To n → blank v (codes w s i) ≡ true
+    → rowsFrom k w s v b p i ≡ WalkFault (refusalAt 21 i 0)
 unfolding rowsFrom
-rows-more zero w s b p i n z e t = absurd (omega arith)
-rows-more (suc k) w s b p i n z e t = rw (sub-one (suc k), e, t)
+rows-blank zero w s v b p i n z e h = absurd (omega arith)
+rows-blank (suc k) w s v b p i n z e h = rw (e, h)
 
-pub rows-fall : (k w : ℕ) (s : List ℕ) (b : Bool) (p i n : ℕ) → 0 < k → runEnd w s i ≡ To n → (b || below (codes w s p) (codes w s i)) ≡ false
-    → rowsFrom k w s b p i ≡ WalkFault (refusalAt 7 i 0)
+pub rows-more : (k w : ℕ) (s : List ℕ) (v : ℕ) (b : Bool) (p i n : ℕ) → 0 < k → runEnd w s i ≡ To n → blank v (codes w s i) ≡ false
+    → (b || below (codes w s p) (codes w s i)) ≡ true → rowsFrom k w s v b p i ≡ rowsFrom (k - 1) w s v false i n
 unfolding rowsFrom
-rows-fall zero w s b p i n z e t = absurd (omega arith)
-rows-fall (suc k) w s b p i n z e t = rw (e, t)
+rows-more zero w s v b p i n z e h t = absurd (omega arith)
+rows-more (suc k) w s v b p i n z e h t = rw (sub-one (suc k), e, h, t)
+
+pub rows-fall : (k w : ℕ) (s : List ℕ) (v : ℕ) (b : Bool) (p i n : ℕ) → 0 < k → runEnd w s i ≡ To n → blank v (codes w s i) ≡ false
+    → (b || below (codes w s p) (codes w s i)) ≡ false → rowsFrom k w s v b p i ≡ WalkFault (refusalAt 7 i 0)
+unfolding rowsFrom
+rows-fall zero w s v b p i n z e h t = absurd (omega arith)
+rows-fall (suc k) w s v b p i n z e h t = rw (e, h, t)
 
 -- ---- runs that end well
 
@@ -103,23 +110,28 @@ codes-length (suc k) s i e a = let t = run-was k s i e a in rw (t .2) (ap suc (c
 
 -- ---- rows that end well
 
-pub rows-was : (k w : ℕ) (s : List ℕ) (first : Bool) (p i e : ℕ) → rowsFrom (suc k) w s first p i ≡ To e
-    → (n : ℕ) × (runEnd w s i ≡ To n) × ((first || below (codes w s p) (codes w s i)) ≡ true) × (rowsFrom k w s false i n ≡ To e)
+pub rows-was : (k w : ℕ) (s : List ℕ) (v : ℕ) (first : Bool) (p i e : ℕ) → rowsFrom (suc k) w s v first p i ≡ To e
+    → (n : ℕ) × (runEnd w s i ≡ To n) × (blank v (codes w s i) ≡ false) × ((first || below (codes w s p) (codes w s i)) ≡ true)
+    × (rowsFrom k w s v false i n ≡ To e)
 unfolding rowsFrom
-rows-was k w s first p i e q = by-walk (runEnd w s i) (first || below (codes w s p) (codes w s i)) (λ n. rowsFrom k w s false i n) q
+rows-was k w s v first p i e q =
+    by-walk (runEnd w s i) (blank v (codes w s i)) (first || below (codes w s p) (codes w s i)) (λ n. rowsFrom k w s v false i n) q
   where
-    by-walk : (d : Walk) (b : Bool) (go : ℕ → Walk) → onWalk d (λ n. cond b (go n) (WalkFault (refusalAt 7 i 0))) ≡ To e → (n : ℕ) × (d ≡ To n) × (b ≡ true) × (go n ≡ To e)
-    by-walk (To n) true go q = (n, refl, refl, q)
-    by-walk (To n) false go q = no-walk (WalkFault (refusalAt 7 i 0)) (refusalAt 7 i 0) e refl q
-    by-walk (WalkFault f) b go q = no-walk (WalkFault f) f e refl q
+    by-walk : (d : Walk) (a b : Bool) (go : ℕ → Walk)
+        → onWalk d (λ n. cond a (WalkFault (refusalAt 21 i 0)) (cond b (go n) (WalkFault (refusalAt 7 i 0)))) ≡ To e
+        → (n : ℕ) × (d ≡ To n) × (a ≡ false) × (b ≡ true) × (go n ≡ To e)
+    by-walk (To n) true b go q = no-walk (WalkFault (refusalAt 21 i 0)) (refusalAt 21 i 0) e refl q
+    by-walk (To n) false true go q = (n, refl, refl, refl, q)
+    by-walk (To n) false false go q = no-walk (WalkFault (refusalAt 7 i 0)) (refusalAt 7 i 0) e refl q
+    by-walk (WalkFault f) a b go q = no-walk (WalkFault f) f e refl q
 
 pub row-cells : (k w : ℕ) → suc k * w ≡ w + k * w
 row-cells k w = suc-mul k w ∙ omega arith
 
 -- their numbers lie one after the other
-pub rows-run : (k w : ℕ) (s : List ℕ) (first : Bool) (p i e : ℕ) → rowsFrom k w s first p i ≡ To e → runEnd (k * w) s i ≡ To e
+pub rows-run : (k w : ℕ) (s : List ℕ) (v : ℕ) (first : Bool) (p i e : ℕ) → rowsFrom k w s v first p i ≡ To e → runEnd (k * w) s i ≡ To e
 unfolding runEnd rowsFrom
-rows-run zero w s first p i e q = rw zero-mul q
-rows-run (suc k) w s first p i e q =
-    let t = rows-was k w s first p i e q in
-    rw (row-cells k w) (run-add w (k * w) s i (t .0) (t .1) .0 ∙ rows-run k w s false i (t .0) e (t .3))
+rows-run zero w s v first p i e q = rw zero-mul q
+rows-run (suc k) w s v first p i e q =
+    let t = rows-was k w s v first p i e q in
+    rw (row-cells k w) (run-add w (k * w) s i (t .0) (t .1) .0 ∙ rows-run k w s v false i (t .0) e (t .4))

@@ -7,6 +7,7 @@ use Rattle.numbers.specs.Numbers.{decode}
 use Rattle.numbers.specs.declared.Reading.{Reading}
 use Rattle.numbers.specs.declared.Reading.the-variants.{Number, NumberFault}
 use Rattle.tables.specs.Rows.{below}
+use Rattle.tables.specs.Versions.{blank}
 use Rattle.loader.specs.declared.Fault.{Fault}
 use Rattle.loader.specs.declared.Walk.{Walk}
 use Rattle.loader.specs.declared.Walk.the-variants.{To, WalkFault}
@@ -36,9 +37,13 @@ unfoldable pub codes : ℕ → List ℕ → ℕ → List ℕ
 codes zero s i = []
 codes (suc k) s i = onNumber (decode s i) (λ x n. x ∷ codes k s n) (λ f c. [])
 
--- k rows of w cells from place i on; the row before them, unless they are the first, starts at p.
--- "7: a row doesn't rise above the one before", "after the row's last cell", at the place "of the row".
-unfoldable pub rowsFrom : ℕ → ℕ → List ℕ → Bool → ℕ → ℕ → Walk
-rowsFrom zero w s first p i = To i
-rowsFrom (suc k) w s first p i =
-    onWalk (runEnd w s i) (λ n. cond (first || below (codes w s p) (codes w s i)) (rowsFrom k w s false i n) (WalkFault (refusalAt 7 i 0)))
+-- k rows of w cells from place i on, in an image of version v; the row before them, unless they are the first, starts at p.
+-- "21, an all-null row where version 2 is read ..; after the row's last cell, before 7, with the row's place" (#111); "7: a row doesn't rise above the one
+-- before", "after the row's last cell", at the place "of the row".
+unfoldable pub rowsFrom : ℕ → ℕ → List ℕ → ℕ → Bool → ℕ → ℕ → Walk
+rowsFrom zero w s v first p i = To i
+rowsFrom (suc k) w s v first p i =
+    onWalk (runEnd w s i) (λ n.
+    cond (blank v (codes w s i)) (WalkFault (refusalAt 21 i 0))
+    (cond (first || below (codes w s p) (codes w s i)) (rowsFrom k w s v false i n)
+    (WalkFault (refusalAt 7 i 0))))

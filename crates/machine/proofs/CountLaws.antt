@@ -6,6 +6,7 @@ use mathlib.Core.Path.{_≡_, refl, ap}
 use mathlib.Core.Logic.{⊎-elim}
 use mathlib.Core.List.{List}
 use lib.ListN.{length}
+use Rattle.tables.specs.Sizes.{mostTables, mostTotal}
 use Rattle.tables.specs.declared.Catalogue.{Catalogue}
 use Rattle.tables.specs.Catalogues.{total}
 use Rattle.tables.specs.Checks.{Lawful}
@@ -18,7 +19,7 @@ use Rattle.rows.specs.World.{worldOf}
 use Rattle.rows.proofs.WorldLaws.{rows-total, world-symmetric}
 use Rattle.rows.proofs.NamedLaws.{there-row}
 use Rattle.store.specs.Store.{storeIn}
-use Rattle.machine.specs.Machine.{State, deepest, finished, working, refused, Called, answer, piled, Askable, Fit, callFault, work, call, openFault, firstGrown, openingFor}
+use Rattle.machine.specs.Machine.{State, deepest, mostTests, mostLooks, finished, working, refused, Called, answer, piled, Askable, Fit, callFault, work, call, openFault, firstGrown, openingFor}
 use Rattle.machine.proofs.WorkLaws.{handing, by-ways}
 use Rattle.machine.proofs.RefusalLaws.{call-clear, call-refused, call-works, open-clear, opening-refused, opening-empty, opening-begun}
 use Rattle.machine.proofs.TrialLaws.{trial-fit}
@@ -30,11 +31,11 @@ pub record Few (cat : Catalogue) (b : ℕ) (q : State) (s : Called) : Type 0 whe
   pub tests : s .tests ≤ s .trials * (cat .n * total cat)
   pub looks : s .looks ≤ s .trials * (deepest cat + 1)
 
--- No call comes near what a machine number holds: N is at most 2,040, a trial has at most 8 N row tests, and a search at most 65 looks.
+-- No call comes near what a machine number holds: N is at most 8,192, a trial has at most 8 N row tests, and a search at most 97 looks.
 pub record Small (s : Called) : Type 0 where
-  pub trials : s .trials ≤ 2040
-  pub tests : s .tests ≤ 2040 * (8 * 2040)
-  pub looks : s .looks ≤ 2040 * 65
+  pub trials : s .trials ≤ mostTotal
+  pub tests : s .tests ≤ mostTotal * mostTests
+  pub looks : s .looks ≤ mostTotal * mostLooks
 
 few-none : (cat : Catalogue) (b : ℕ) (q : State) (s : Called) → q .next ≤ total cat → s .trials ≡ 0 → s .tests ≡ 0 → s .looks ≡ 0 → Few cat b q s
 few-none cat b q s h e f g = record { rows = omega arith; budget = omega arith; tests = omega arith; looks = omega arith }
@@ -72,18 +73,18 @@ module _ (cat : Catalogue) (cells row : List ℕ) where
     work-small b q g =
         let f = few b q g in
         let w = work cat cells b q row in
-        let rows : total cat ≤ 2040 = rows-few cat (length cells) L (cat .n) (omega arith) in
-        let n : w .trials ≤ 2040 = omega (arith, f .rows) in
-        let each : cat .n * total cat ≤ 8 * 2040 = product (cat .n) (total cat) 8 2040 (L .tables) rows in
-        let looks : deepest cat + 1 ≤ 65 = omega (arith, L .tables) in
+        let rows : total cat ≤ mostTotal = rows-few cat (length cells) L (cat .n) (omega arith) in
+        let n : w .trials ≤ mostTotal = omega (arith, f .rows) in
+        let each : cat .n * total cat ≤ mostTests = product (cat .n) (total cat) mostTables mostTotal (L .tables) rows in
+        let looks : deepest cat + 1 ≤ mostLooks = omega (arith, L .tables) in
         record {
           trials = n;
-          tests = omega (arith, f .tests, product (w .trials) (cat .n * total cat) 2040 (8 * 2040) n each);
-          looks = omega (arith, f .looks, product (w .trials) (deepest cat + 1) 2040 65 n looks);
+          tests = omega (arith, f .tests, product (w .trials) (cat .n * total cat) mostTotal mostTests n each);
+          looks = omega (arith, f .looks, product (w .trials) (deepest cat + 1) mostTotal mostLooks n looks);
         }
 
     pub counts-small : (b : ℕ) (q : State) → Fit cat q → (a t l : ℕ) (s : Called) → work cat cells b q row ≡ piled a t l s
-        → (a ≤ 2040) × (t ≤ 2040 * (8 * 2040)) × (l ≤ 2040 * 65)
+        → (a ≤ mostTotal) × (t ≤ mostTotal * mostTests) × (l ≤ mostTotal * mostLooks)
     counts-small b q g a t l s e =
         let w = work-small b q g in
         let x : work cat cells b q row .trials ≡ a + s .trials = ap (λ (c : Called). c .trials) e in
@@ -115,27 +116,27 @@ module _ (cat : Catalogue) (cells : List ℕ) (a : Asked) where
       by (everyWith s) p = there-row cat cells (s .table) (s .row) p
 
   -- One row alone takes at most n x N tests,
-  first-few : Lawful cat (length cells) → Askable cat a → 0 < total cat → firstGrown cat cells a .tests ≤ 8 * 2040
+  first-few : Lawful cat (length cells) → Askable cat a → 0 < total cat → firstGrown cat cells a .tests ≤ mostTests
   first-few L p h =
       let W = worldOf cat cells in
       let s = firstFor W a in
       let r = first-there W a (able-there p) (rw (rows-total cat cells) h) in
       let b : firstGrown cat cells a .tests ≤ W .n * length (rows W) = extension-maximal W (world-symmetric cat cells) (alone W s) (alone-jcc W s r) .few in
-      let q : length (rows W) ≤ 2040 = omega (arith, rows-few cat (length cells) L (cat .n) (omega arith), rows-total cat cells) in
-      omega (arith, b, product (cat .n) (length (rows W)) 8 2040 (L .tables) q)
+      let q : length (rows W) ≤ mostTotal = omega (arith, rows-few cat (length cells) L (cat .n) (omega arith), rows-total cat cells) in
+      omega (arith, b, product (cat .n) (length (rows W)) mostTables mostTotal (L .tables) q)
 
   -- and open tries no more.
-  pub open-few : (keys left right : List ℕ) → openingFor cat cells a keys left right .tests ≤ 8 * 2040
-  open-few keys left right = by (openFault cat (length cells) a (storeIn keys left right 0)) refl
+  pub open-few : (low high left right : List ℕ) → openingFor cat cells a low high left right .tests ≤ mostTests
+  open-few low high left right = by (openFault cat (length cells) a (storeIn low high left right 0)) refl
     where
-      by : (k : ℕ) → openFault cat (length cells) a (storeIn keys left right 0) ≡ k → openingFor cat cells a keys left right .tests ≤ 8 * 2040
-      by (suc k) e = rw (opening-refused cat cells a keys left right (suc k) e (λ z. omega arith)) (omega arith)
+      by : (k : ℕ) → openFault cat (length cells) a (storeIn low high left right 0) ≡ k → openingFor cat cells a low high left right .tests ≤ mostTests
+      by (suc k) e = rw (opening-refused cat cells a low high left right (suc k) e (λ z. omega arith)) (omega arith)
       by zero e = ⊎-elim none some (eq-zero-or-pos (total cat))
         where
-          none : total cat ≡ 0 → openingFor cat cells a keys left right .tests ≤ 8 * 2040
-          none z = rw (opening-empty cat cells a keys left right e z) (omega arith)
+          none : total cat ≡ 0 → openingFor cat cells a low high left right .tests ≤ mostTests
+          none z = rw (opening-empty cat cells a low high left right e z) (omega arith)
 
-          some : 0 < total cat → openingFor cat cells a keys left right .tests ≤ 8 * 2040
+          some : 0 < total cat → openingFor cat cells a low high left right .tests ≤ mostTests
           some h =
-              let (L, p, r) = open-clear cat (length cells) a (storeIn keys left right 0) e in
-              rw (opening-begun cat cells a keys left right e h) (first-few L p h)
+              let (L, p, r) = open-clear cat (length cells) a (storeIn low high left right 0) e in
+              rw (opening-begun cat cells a low high left right e h) (first-few L p h)

@@ -185,44 +185,45 @@ module _ (cat : Catalogue) (lent : ℕ) (a : Asked) (q : Store) where
           (stray-iff cat a .0 e, λ h. ⊎-elim (λ u. absurd (clash (eq-eqb (roomIn q) 0 u) g)) (λ p. p) (eq-zero-or-pos (roomIn q)))
       rest false false z e f g r = (stray-iff cat a .0 e, λ h. absurd (clash (lt-ltb 0 (total cat) h) f))
 
-module _ (cat : Catalogue) (cells : List ℕ) (a : Asked) (keys left right : List ℕ) where
+module _ (cat : Catalogue) (cells : List ℕ) (a : Asked) (low high left right : List ℕ) where
   abbrev fault : ℕ
-  fault = openFault cat (length cells) a (storeIn keys left right 0)
+  fault = openFault cat (length cells) a (storeIn low high left right 0)
 
   pub opening-refused : (k : ℕ) → fault ≡ k → (k ≡ 0 → ⊥)
-      → openingFor cat cells a keys left right ≡ record { refusal = k; after = zeros a keys left right; tests = 0 }
+      → openingFor cat cells a low high left right ≡ record { refusal = k; after = zeros a low high left right; tests = 0 }
   unfolding openingFor
   opening-refused k e h = rw e (met k h)
     where
       met : (k : ℕ) → (k ≡ 0 → ⊥)
-          → unlessRefused k (zeros a keys left right) (begun cat cells a keys left right) ≡ record { refusal = k; after = zeros a keys left right; tests = 0 }
+          → unlessRefused k (zeros a low high left right) (begun cat cells a low high left right)
+          ≡ record { refusal = k; after = zeros a low high left right; tests = 0 }
       met zero h = absurd (h refl)
       met (suc k) h = refl
 
   -- The refusal given is the first that is met.
-  begun-says : begun cat cells a keys left right .refusal ≡ 0
+  begun-says : begun cat cells a low high left right .refusal ≡ 0
   unfolding begun
   begun-says = ⊎-elim (λ e. rw e) (λ e. rw e) (which (eqb (total cat) 0))
 
-  pub opening-says : openingFor cat cells a keys left right .refusal ≡ fault
+  pub opening-says : openingFor cat cells a low high left right .refusal ≡ fault
   unfolding openingFor
   opening-says = by fault
     where
-      by : (k : ℕ) → unlessRefused k (zeros a keys left right) (begun cat cells a keys left right) .refusal ≡ k
+      by : (k : ℕ) → unlessRefused k (zeros a low high left right) (begun cat cells a low high left right) .refusal ≡ k
       by zero = begun-says
       by (suc k) = refl
 
   pub opening-empty : fault ≡ 0 → total cat ≡ 0
-      → openingFor cat cells a keys left right ≡ record { refusal = 0; after = stateFor a keys left right 0 0 0; tests = 0 }
+      → openingFor cat cells a low high left right ≡ record { refusal = 0; after = stateFor a low high left right 0 0 0; tests = 0 }
   unfolding openingFor begun
   opening-empty e z = rw (e, eq-eqb (total cat) 0 z)
 
   pub opening-begun : fault ≡ 0 → 0 < total cat
-      → openingFor cat cells a keys left right
+      → openingFor cat cells a low high left right
       ≡ record {
         refusal = 0;
         after = record {
-          store = filed (storeIn keys left right 0) (keyOf bitsPerRow (firstGrown cat cells a .rows));
+          store = filed (storeIn low high left right 0) (keyOf bitsPerRow (firstGrown cat cells a .rows));
           taken = 0;
           next = total cat;
           asked = a;

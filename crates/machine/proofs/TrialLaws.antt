@@ -49,19 +49,19 @@ found-after q key (Absent p s n) = by (ltb (q .found) (roomIn q))
     by false = refl
 
 -- The store's promise of an offer gives the trial's end.
-offer-placed : (deepest : ℕ) (q : State) (key tests : ℕ) (r : Placed) (ks ls rs : List ℕ) → OfferPost (q .store) key deepest r ks ls rs
-    → offered deepest q key tests ≡ placed q tests r (storeIn ks ls rs (foundAfter (q .store .found) r))
+offer-placed : (deepest : ℕ) (q : State) (key tests : ℕ) (r : Placed) (ks hs ls rs : List ℕ) → OfferPost (q .store) key deepest r ks hs ls rs
+    → offered deepest q key tests ≡ placed q tests r (storeIn ks hs ls rs (foundAfter (q .store .found) r))
 unfolding offered
-offer-placed deepest q key tests r ks ls rs o =
+offer-placed deepest q key tests r ks hs ls rs o =
     let a = searchOf (q .store) key deepest in
-    rw (o .answer, o .after .keys, o .after .left, o .after .right, sym (found-after (q .store) key a)) refl
+    rw (o .answer, o .after .low, o .after .high, o .after .left, o .after .right, sym (found-after (q .store) key a)) refl
 
--- A refused offer has left the three lists as they were.
-offer-stays : (q : Store) (key deepest : ℕ) (r : Placed) (ks ls rs : List ℕ) → OfferPost q key deepest r ks ls rs → (r ≡ Full) ⊎ (r ≡ Broken)
-    → Holds ks ls rs q
-offer-stays q key deepest r ks ls rs o f =
+-- A refused offer has left the four lists as they were.
+offer-stays : (q : Store) (key deepest : ℕ) (r : Placed) (ks hs ls rs : List ℕ) → OfferPost q key deepest r ks hs ls rs → (r ≡ Full) ⊎ (r ≡ Broken)
+    → Holds ks hs ls rs q
+offer-stays q key deepest r ks hs ls rs o f =
     let a = searchOf q key deepest in
-    subst (Holds ks ls rs) (refused-stays q key a (⊎-elim (λ e. inl (sym (o .answer) ∙ e)) (λ e. inr (sym (o .answer) ∙ e)) f)) (o .after)
+    subst (Holds ks hs ls rs) (refused-stays q key a (⊎-elim (λ e. inl (sym (o .answer) ∙ e)) (λ e. inr (sym (o .answer) ∙ e)) f)) (o .after)
 
 module _ (cat : Catalogue) (cells : List ℕ) where
   -- The set that the trial comes to, from the row that the code has.
@@ -82,40 +82,44 @@ module _ (cat : Catalogue) (cells : List ℕ) where
   trial-unsought q tests h e w t = rw (e, row-place cat cells (q .next) h, w) (ap (λ (y : ℕ). done (raised q (q .store)) y 0) (sym t))
 
   -- It is: the code has the row at place next row, the key of what the trial came to, its row tests, and the offer's promise.
-  pub offer-trial : (q : State) (key tests : ℕ) (r : Placed) (ks ls rs : List ℕ) → q .next < total cat → named cat (keyAt q (q .taken - 1)) ≡ true
+  pub offer-trial : (q : State) (key tests : ℕ) (r : Placed) (ks hs ls rs : List ℕ) → q .next < total cat → named cat (keyAt q (q .taken - 1)) ≡ true
       → wanted (q .asked) (trialHad q .rows) ≡ true
       → key ≡ keyOf bitsPerRow (trialHad q .rows)
       → tests ≡ trialHad q .tests
-      → OfferPost (q .store) key (deepest cat) r ks ls rs
-      → trialOn cat cells q ≡ placed q tests r (storeIn ks ls rs (foundAfter (q .store .found) r))
+      → OfferPost (q .store) key (deepest cat) r ks hs ls rs
+      → trialOn cat cells q ≡ placed q tests r (storeIn ks hs ls rs (foundAfter (q .store .found) r))
   unfolding trialOn
-  offer-trial q key tests r ks ls rs h e w k t o =
+  offer-trial q key tests r ks hs ls rs h e w k t o =
       rw (e, row-place cat cells (q .next) h, w)
-      (ap₂ (λ (x y : ℕ). offered (deepest cat) q x y) (sym k) (sym t) ∙ offer-placed (deepest cat) q key tests r ks ls rs o)
+      (ap₂ (λ (x y : ℕ). offered (deepest cat) q x y) (sym k) (sym t) ∙ offer-placed (deepest cat) q key tests r ks hs ls rs o)
 
   -- The same by what the offer came to. A refused one has left the store as it was.
   module _ (q : State) (key tests : ℕ) (h : q .next < total cat) (e : named cat (keyAt q (q .taken - 1)) ≡ true)
       (w : wanted (q .asked) (trialHad q .rows) ≡ true)
       (k : key ≡ keyOf bitsPerRow (trialHad q .rows)) (t : tests ≡ trialHad q .tests)
-      (r : Placed) (ks ls rs : List ℕ) (o : OfferPost (q .store) key (deepest cat) r ks ls rs) where
-    by-placed : (a : Placed) → r ≡ a → trialOn cat cells q ≡ placed q tests a (storeIn ks ls rs (foundAfter (q .store .found) a))
-    by-placed a f = offer-trial q key tests r ks ls rs h e w k t o ∙ ap (λ (x : Placed). placed q tests x (storeIn ks ls rs (foundAfter (q .store .found) x))) f
+      (r : Placed) (ks hs ls rs : List ℕ) (o : OfferPost (q .store) key (deepest cat) r ks hs ls rs) where
+    by-placed : (a : Placed) → r ≡ a → trialOn cat cells q ≡ placed q tests a (storeIn ks hs ls rs (foundAfter (q .store .found) a))
+    by-placed a f =
+        offer-trial q key tests r ks hs ls rs h e w k t o
+        ∙ ap (λ (x : Placed). placed q tests x (storeIn ks hs ls rs (foundAfter (q .store .found) x))) f
 
-    pub trial-known : (n : ℕ) → r ≡ Known n → trialOn cat cells q ≡ done (stateFor (q .asked) ks ls rs (q .store .found) (q .taken) (q .next + 1)) tests n
+    pub trial-known : (n : ℕ) → r ≡ Known n
+        → trialOn cat cells q ≡ done (stateFor (q .asked) ks hs ls rs (q .store .found) (q .taken) (q .next + 1)) tests n
     unfolding placed
     trial-known n f = by-placed (Known n) f
 
-    pub trial-added : (n : ℕ) → r ≡ Added n → trialOn cat cells q ≡ done (stateFor (q .asked) ks ls rs (q .store .found + 1) (q .taken) (q .next + 1)) tests n
+    pub trial-added : (n : ℕ) → r ≡ Added n
+        → trialOn cat cells q ≡ done (stateFor (q .asked) ks hs ls rs (q .store .found + 1) (q .taken) (q .next + 1)) tests n
     unfolding placed
     trial-added n f = by-placed (Added n) f
 
-    pub trial-full : r ≡ Full → (trialOn cat cells q ≡ full) × Holds ks ls rs (q .store)
+    pub trial-full : r ≡ Full → (trialOn cat cells q ≡ full) × Holds ks hs ls rs (q .store)
     unfolding placed
-    trial-full f = (by-placed Full f, offer-stays (q .store) key (deepest cat) r ks ls rs o (inl f))
+    trial-full f = (by-placed Full f, offer-stays (q .store) key (deepest cat) r ks hs ls rs o (inl f))
 
-    pub trial-broken : r ≡ Broken → (trialOn cat cells q ≡ damaged) × Holds ks ls rs (q .store)
+    pub trial-broken : r ≡ Broken → (trialOn cat cells q ≡ damaged) × Holds ks hs ls rs (q .store)
     unfolding placed
-    trial-broken f = (by-placed Broken f, offer-stays (q .store) key (deepest cat) r ks ls rs o (inr f))
+    trial-broken f = (by-placed Broken f, offer-stays (q .store) key (deepest cat) r ks hs ls rs o (inr f))
 
   -- Open's first set, from the row that the code has.
   pub first-row : 0 < total cat

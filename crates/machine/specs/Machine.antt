@@ -4,10 +4,11 @@ use Prim.Native.Nat.{ℕ, zero, suc, _+_, _-_, _*_, _≤_, _<_}
 use mathlib.Core.Path.{_≡_}
 use mathlib.Core.Bool.{Bool, false, not, cond, _&&_, _||_}
 use mathlib.Core.List.{List}
-use lib.ListN.{length, getD}
+use lib.ListN.{length}
 use lib.Dec.{ltb, eqb}
 use Rattle.laws.specs.Lists.{put}
 use Rattle.keys.specs.Keys.{bitsPerRow, keyOf}
+use Rattle.tables.specs.Sizes.{mostTables, mostTotal}
 use Rattle.tables.specs.declared.Catalogue.{Catalogue}
 use Rattle.tables.specs.Catalogues.{total}
 use Rattle.tables.specs.Checks.{firstOf, catalogueFault}
@@ -16,13 +17,14 @@ use Rattle.disjunction.specs.Asked.{Asked, everySet, everyWith, wanted, firstFo
 use Rattle.disjunction.specs.Cells.{padded}
 use Rattle.rows.specs.World.{cellsIn, worldOf, setOf}
 use Rattle.rows.specs.Named.{named, There, rowsThere}
+use Rattle.store.specs.Store as stores
 use Rattle.store.specs.Store.{Store, storeIn, roomIn, searchOf, filed, answerOf, storeAfter}
 use Rattle.store.specs.declared.Placed.{Placed}
 use Rattle.store.specs.declared.Placed.the-variants.{Known, Added, Full, Broken}
 
 -- ---- the state
 
--- "One stream record per open stream ..: found, taken, next row", and the three lists of the store. Found stands in the store. A stream's record
+-- "One stream record per open stream ..: found, taken, next row", and the four lists of the store. Found stands in the store. A stream's record
 -- also says what is asked for: every set, or those that hold the row that it names.
 pub record State : Type 0 where
   pub store : Store
@@ -30,17 +32,17 @@ pub record State : Type 0 where
   pub next : ℕ
   pub asked : Asked
 
--- The state of the three lists and the three numbers, of a stream that is asked for a.
-abbrev pub stateFor : Asked → List ℕ → List ℕ → List ℕ → ℕ → ℕ → ℕ → State
-stateFor a keys left right found taken next = record { store = storeIn keys left right found; taken = taken; next = next; asked = a }
+-- The state of the four lists and the three numbers, of a stream that is asked for a.
+abbrev pub stateFor : Asked → List ℕ → List ℕ → List ℕ → List ℕ → ℕ → ℕ → ℕ → State
+stateFor a low high left right found taken next = record { store = storeIn low high left right found; taken = taken; next = next; asked = a }
 
 -- That of the stream of every set.
-abbrev pub stateIn : List ℕ → List ℕ → List ℕ → ℕ → ℕ → ℕ → State
-stateIn keys left right found taken next = stateFor everySet keys left right found taken next
+abbrev pub stateIn : List ℕ → List ℕ → List ℕ → List ℕ → ℕ → ℕ → ℕ → State
+stateIn low high left right found taken next = stateFor everySet low high left right found taken next
 
 -- The key of record p.
 abbrev pub keyAt : State → ℕ → ℕ
-keyAt q p = getD (q .store .keys) p 0
+keyAt q p = stores.keyAt (q .store) p
 
 -- ---- a trial
 
@@ -70,9 +72,16 @@ offered deepest q key tests =
 abbrev pub offeredIf : Bool → ℕ → State → ℕ → ℕ → Trial
 offeredIf b deepest q key tests = cond b (offered deepest q key tests) (done (raised q (q .store)) tests 0)
 
--- "Look 8n + 1" is the last one: 8n bits turn a search.
+-- "8n + 1 becomes 12n + 1" (#110): that look is the last one, and 12n bits turn a search.
 abbrev pub deepest : Catalogue → ℕ
 deepest cat = bitsPerRow * cat .n
+
+-- No trial has more row tests and looks, nor open more row tests: there are at most 8 tables and, since a row has a cell, 8,192 rows (#110).
+abbrev pub mostTests : ℕ
+mostTests = mostTables * mostTotal
+
+abbrev pub mostLooks : ℕ
+mostLooks = bitsPerRow * mostTables + 1
 
 module _ (cat : Catalogue) (cells : List ℕ) where
   -- The set that the trial at hand comes to, with its row tests: "the trial of the row at place next row (row order, from 0) on the set in record
@@ -233,8 +242,8 @@ blank everySet = everySet
 blank (everyWith s) = everyWith (record { table = 0; row = 0 })
 
 -- It, and lists as they were lent.
-abbrev pub zeros : Asked → List ℕ → List ℕ → List ℕ → State
-zeros a keys left right = stateFor (blank a) keys left right 0 0 0
+abbrev pub zeros : Asked → List ℕ → List ℕ → List ℕ → List ℕ → State
+zeros a low high left right = stateFor (blank a) low high left right 0 0 0
 
 -- What open gives: its refusal, 0 for none, the stream, and its row tests.
 pub record Opened : Type 0 where
@@ -263,26 +272,26 @@ module _ (cat : Catalogue) (cells : List ℕ) (a : Asked) where
 
   -- "Open with N above 0 extends the first row alone, stores it as record 0 with both links 0 and gives found 1, taken 0, next row N. With N = 0 all
   -- three are 0. Open also gives its row tests."
-  unfoldable pub begun : List ℕ → List ℕ → List ℕ → Opened
-  begun keys left right =
+  unfoldable pub begun : List ℕ → List ℕ → List ℕ → List ℕ → Opened
+  begun low high left right =
       cond (eqb (total cat) 0)
-      (record { refusal = 0; after = stateFor a keys left right 0 0 0; tests = 0 })
+      (record { refusal = 0; after = stateFor a low high left right 0 0 0; tests = 0 })
       (record {
         refusal = 0;
-        after = record { store = filed (storeIn keys left right 0) (keyOf bitsPerRow (firstGrown .rows)); taken = 0; next = total cat; asked = a };
+        after = record { store = filed (storeIn low high left right 0) (keyOf bitsPerRow (firstGrown .rows)); taken = 0; next = total cat; asked = a };
         tests = firstGrown .tests;
       })
 
-  -- Open of a stream that is asked for a, on the three lists that are lent.
-  unfoldable pub openingFor : List ℕ → List ℕ → List ℕ → Opened
-  openingFor keys left right =
-      unlessRefused (openFault cat (length cells) a (storeIn keys left right 0)) (zeros a keys left right) (begun keys left right)
+  -- Open of a stream that is asked for a, on the four lists that are lent.
+  unfoldable pub openingFor : List ℕ → List ℕ → List ℕ → List ℕ → Opened
+  openingFor low high left right =
+      unlessRefused (openFault cat (length cells) a (storeIn low high left right 0)) (zeros a low high left right) (begun low high left right)
 
 module _ (cat : Catalogue) (cells : List ℕ) where
   -- Open, for every set.
-  abbrev pub opening : List ℕ → List ℕ → List ℕ → Opened
-  opening keys left right = openingFor cat cells everySet keys left right
+  abbrev pub opening : List ℕ → List ℕ → List ℕ → List ℕ → Opened
+  opening low high left right = openingFor cat cells everySet low high left right
 
   -- "Add a stream that starts by extending that row alone" (#109). Its calls are those of any stream: `call`.
-  abbrev pub openingHolding : Place → List ℕ → List ℕ → List ℕ → Opened
-  openingHolding s keys left right = openingFor cat cells (everyWith s) keys left right
+  abbrev pub openingHolding : Place → List ℕ → List ℕ → List ℕ → List ℕ → Opened
+  openingHolding s low high left right = openingFor cat cells (everyWith s) low high left right

@@ -18,13 +18,13 @@ use Rattle.padding.specs.Covering.{keeps, covering, Pair}
 -- ---- padded rows
 
 -- "set 1 1 1 | 1 10 7", "set 2 0 2 | 2 20 -", "set 0 2 0 | - 4294967306 9", by their keys.
-pub sample-rows : (paddedRow three threeCells 65793 ≡ 2 ∷ 11 ∷ 8 ∷ []) × (paddedRow three threeCells 131074 ≡ 3 ∷ 21 ∷ 0 ∷ [])
-    × (paddedRow three threeCells 512 ≡ 0 ∷ 4294967307 ∷ 10 ∷ [])
+pub sample-rows : (paddedRow three threeCells 16781313 ≡ 2 ∷ 11 ∷ 8 ∷ []) × (paddedRow three threeCells 33554434 ≡ 3 ∷ 21 ∷ 0 ∷ [])
+    × (paddedRow three threeCells 8192 ≡ 0 ∷ 4294967307 ∷ 10 ∷ [])
 unfolding paddedRow padded codeBelow gives member tab any bitOf rowsIn rowOf rowStart firstCell ones onesIn three threeCells
 sample-rows = (refl, refl, refl)
 
 -- Rows 1 and 2 of the first two tables are not consistent: attribute 1 is that of table 0.
-pub lowest-table : paddedRow three threeCells 513 ≡ 2 ∷ 11 ∷ 10 ∷ []
+pub lowest-table : paddedRow three threeCells 8193 ≡ 2 ∷ 11 ∷ 10 ∷ []
 unfolding paddedRow padded codeBelow gives member tab any bitOf rowsIn rowOf rowStart firstCell ones onesIn three threeCells
 lowest-table = refl
 

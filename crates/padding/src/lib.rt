@@ -5,6 +5,7 @@ ghost use Prim.Native.Nat.{_<_, _≤_};
 ghost use lib.ListN.{length};
 ghost use Rattle.laws.specs.Lists.{put};
 ghost use Rattle.keys.specs.Keys.{mostTables};
+ghost use Rattle.keys.specs.TwoWords.{numberOf};
 ghost use Rattle.words.specs.Words.{bitOf};
 ghost use Rattle.tables.specs.Catalogues.{schemeOf, countOf, codeOf};
 ghost use Rattle.tables.specs.Checks.{Lawful};
@@ -13,13 +14,14 @@ ghost use Rattle.rows.specs.World.{cellsIn, setOf};
 ghost use Rattle.rows.specs.Named.{Named};
 ghost use Rattle.padding.specs.Padding.{givesIn, paddedRow};
 ghost use Rattle.padding.specs.Covering.{keeps, Covers};
+use keys::Key;
 use tables::Catalogue;
 
 // Whether table t is a member of the set and has attribute a.
 // The lowest-numbered such table gives the padded row its code.
-fn table_gives(cat: Catalogue, key: u64, t: usize, a: usize) -> bool
+fn table_gives(cat: Catalogue, key: Key, t: usize, a: usize) -> bool
     requires { ⌜ (t < cat .n) × (cat .n ≤ mostTables) × (a < 64) ⌝ }
-    ensures { λ r. ⌜ r ≡ givesIn cat key a t ⌝ }
+    ensures { λ r. ⌜ r ≡ givesIn cat (numberOf key) a t ⌝ }
 {
     if keys::row_of(key, t) == 0 {
         return false;
@@ -40,9 +42,9 @@ fn code_of(cat: Catalogue, cells: &[u64], t: usize, r: usize, a: usize) -> u64
 
 // The padded row's code of attribute a.
 // Tables are asked from 0 on, so that the first to give a code is the lowest-numbered.
-fn code_at(cat: Catalogue, cells: &[u64], key: u64, a: usize) -> u64
-    requires { ⌜ Lawful cat (length (now cells)) × Named cat key × (a < cat .m) ⌝ }
-    ensures { λ c. ⌜ c ≡ codeBelow (cellsIn cat (now (cells .entry))) (setOf cat key) a (cat .n) ⌝ }
+fn code_at(cat: Catalogue, cells: &[u64], key: Key, a: usize) -> u64
+    requires { ⌜ Lawful cat (length (now cells)) × Named cat (numberOf key) × (a < cat .m) ⌝ }
+    ensures { λ c. ⌜ c ≡ codeBelow (cellsIn cat (now (cells .entry))) (setOf cat (numberOf key)) a (cat .n) ⌝ }
 {
     let n = cat.n;
     let mut t: usize = 0;
@@ -58,9 +60,9 @@ fn code_at(cat: Catalogue, cells: &[u64], key: u64, a: usize) -> u64
 
 // Writes the padded row of a set to the front of the lent row.
 // It is called once for each set that is handed out; cells from m on stay.
-pub fn pad(cat: Catalogue, cells: &[u64], key: u64, padded: &mut [u64])
-    requires { ⌜ Lawful cat (length (now cells)) × Named cat key × (cat .m ≤ length (now padded)) ⌝ }
-    ensures { λ _. ⌜ now (padded .exit) ≡ put (paddedRow cat (now (cells .entry)) key) (now (padded .entry)) ⌝ }
+pub fn pad(cat: Catalogue, cells: &[u64], key: Key, padded: &mut [u64])
+    requires { ⌜ Lawful cat (length (now cells)) × Named cat (numberOf key) × (cat .m ≤ length (now padded)) ⌝ }
+    ensures { λ _. ⌜ now (padded .exit) ≡ put (paddedRow cat (now (cells .entry)) (numberOf key)) (now (padded .entry)) ⌝ }
 {
     let m = cat.m;
     let mut a: usize = 0;

@@ -105,6 +105,12 @@ module _ (cat : Catalogue) where
   pub named-zero : (key : ℕ) → key ≡ 0 → named cat key ≡ false
   named-zero key z = not-yes (named cat key) (λ h. absurd (omega (arith, z, named-iff cat key .0 h .some)))
 
+  -- A key that passes those of all tables is beyond those of n.
+  pub named-spare : (key : ℕ) → cat .n ≤ mostTables → 2 ^ (bitsPerRow * mostTables) ≤ key → named cat key ≡ false
+  named-spare key n h =
+      let m : 2 ^ (bitsPerRow * cat .n) ≤ 2 ^ (bitsPerRow * mostTables) = pow-mono (mul-le-mul-left bitsPerRow n) in
+      not-yes (named cat key) (λ y. absurd (omega (arith, h, m, named-iff cat key .0 y .low)))
+
   pub named-bad : (key t : ℕ) → rowsThere cat t < rowOf bitsPerRow key t → named cat key ≡ false
   named-bad key t h = not-yes (named cat key) (λ y. go (named-iff cat key .0 y) (decLt t (cat .n)))
     where

@@ -12,7 +12,8 @@ use Rattle.tables.specs.Catalogues.{countOf}
 unfoldable pub missing : Catalogue → ℕ → Bool
 missing cat key = any (cat .n) (λ t. ltb (countOf cat t) (rowOf bitsPerRow key t))
 
--- "Or a table from n on": something stands above the rows of the first n tables.
+-- "Or a table from n on": something stands above the rows of the first n tables. So does a spare bit of either word of a key, which "names a missing
+-- row" (#110).
 unfoldable pub beyond : Catalogue → ℕ → Bool
 beyond cat key = leb (2 ^ (bitsPerRow * cat .n)) key
 

@@ -6,10 +6,12 @@ ghost use lib.ListN.{length};
 ghost use lib.Count.{ones};
 ghost use Rattle.words.specs.Words.{bitOf};
 ghost use Rattle.keys.specs.Keys.{mostTables};
+ghost use Rattle.keys.specs.TwoWords.{numberOf};
 ghost use Rattle.tables.specs.Sizes.{mostCells};
 ghost use Rattle.tables.specs.Catalogues.{codeAt};
 ghost use Rattle.tables.specs.Checks.{Lawful};
 ghost use Rattle.rows.specs.Named.{named, rowsThere};
+use keys::Key;
 use tables::Catalogue;
 
 // The code of attribute a in the row of this scheme whose cells begin at `start`.
@@ -38,11 +40,15 @@ pub fn rows_there(cat: Catalogue, t: usize) -> u64
 
 // Whether a key names rows, and only rows that are there.
 // A used record is asked this before anything is read by its key.
-pub fn key_named(cat: Catalogue, key: u64) -> bool
+pub fn key_named(cat: Catalogue, key: Key) -> bool
     requires { ⌜ Lawful cat mostCells ⌝ }
-    ensures { λ r. ⌜ r ≡ named cat key ⌝ }
+    ensures { λ r. ⌜ r ≡ named cat (numberOf key) ⌝ }
 {
-    if key == 0 {
+    let none = keys::none();
+    if keys::same(key, none) {
+        return false;
+    }
+    if keys::spare(key) {
         return false;
     }
     let mut t: usize = 0;

@@ -16,6 +16,8 @@ use Rattle.laws.proofs.TestLaws.{which, clash, not-yes, iff-eq, and-split, and-
 use Rattle.words.specs.Words.{bitOf}
 use Rattle.words.proofs.WordLaws.{zero-bit, bit-and, bit-or, bit-gone}
 use Rattle.keys.specs.Keys.{bitsPerRow, withRow}
+use Rattle.keys.specs.TwoWords.{numberOf}
+use Rattle.keys.specs.declared.Key.{Key}
 use Rattle.keys.proofs.KeyLaws.{with-lt}
 use Rattle.keys.proofs.SetLaws.{in-length, in-with}
 use Rattle.tables.specs.declared.Catalogue.{Catalogue}
@@ -216,13 +218,12 @@ module _ (cat : Catalogue) (cells : List ℕ) (lent : ℕ) (L : Lawful cat lent)
 -- The set with the row that comes in.
 pub added-set : (cat : Catalogue) (lent : ℕ) → Lawful cat lent → (key tables : ℕ) → Named cat key → TablesOf (setOf cat key) tables → (s : Place)
     → There cat (s .table) (s .row)
-    → (key′ x : ℕ) → key′ ≡ withRow bitsPerRow key (s .table) (s .row) → x ≡ 2 ^ (s .table)
+    → (key′ : Key) (x : ℕ) → numberOf key′ ≡ withRow bitsPerRow key (s .table) (s .row) → x ≡ 2 ^ (s .table)
     → SetFor cat (addRow (setOf cat key) s) (record { key = key′; tables = bitOr tables x })
 added-set cat lent L key tables N M s h key′ x e f =
     let small = row-small cat lent L (s .table) (s .row) h in
-    rw e
-    (record {
-      low = with-lt bitsPerRow (cat .n) key (s .table) (s .row) (h .table) small (N .low);
-      rows = in-with bitsPerRow (cat .n) key (s .table) (s .row) (h .table) small;
+    record {
+      low = rw e (with-lt bitsPerRow (cat .n) key (s .table) (s .row) (h .table) small (N .low));
+      rows = rw e (in-with bitsPerRow (cat .n) key (s .table) (s .row) (h .table) small);
       tables = tables-add (setOf cat key) tables x s M (rw (in-length bitsPerRow (cat .n) key) (h .table)) (h .low) f;
-    })
+    }

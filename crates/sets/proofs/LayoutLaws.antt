@@ -12,33 +12,26 @@ use lib.Pow.{pow-mono}
 use borrow.Author.Tests.{eqb-true}
 use Rattle.laws.proofs.TestLaws.{clash, or-case}
 use Rattle.words.specs.Words.{bitOf}
-use Rattle.words.proofs.WordLaws.{zero-bit, bit-or, trailing-lowest}
+use Rattle.words.proofs.WordLaws.{zero-bit, bit-or}
 use Rattle.tables.specs.declared.Catalogue.{Catalogue}
 use Rattle.tables.specs.Catalogues.{schemeOf, countOf, firstCell, placeIn}
 use Rattle.tables.specs.Checks.{Lawful}
-use Rattle.tables.specs.Sizes.{mostTables, mostRows, mostCells}
+use Rattle.tables.specs.Sizes.{mostCells, mostTotal}
 use Rattle.tables.proofs.CatalogueLaws.{cells-mono, rows-few}
-use Rattle.rows.proofs.WorldLaws.{code-inside}
 use Rattle.sets.specs.declared.Layout.{Layout}
 use Rattle.walks.specs.Merged.{mergedLength, Rising}
 use Rattle.sets.specs.Promises.{RisingIn, LaidOut}
 use Rattle.sets.proofs.MaskLaws.{one-is}
 
--- A lawful scheme is a word,
+-- A lawful scheme is a word.
 pub scheme-narrow : (cat : Catalogue) (lent : ℕ) → Lawful cat lent → (t : ℕ) → t < cat .n → schemeOf cat t < 2 ^ 64
 scheme-narrow cat lent L t l = omega (arith, L .scheme t l, pow-mono (L .attributes))
-
--- and, as it is not 0, has a cell.
-pub some-cell : (scheme : ℕ) → 0 < scheme → scheme < 2 ^ 64 → 0 < ones scheme
-some-cell scheme p n =
-    let l = trailing-lowest 64 scheme p n in
-    omega (arith, code-inside scheme 0 (ones scheme) _ (omega arith) (l .itself))
 
 -- What is read of a table is small.
 pub record Small (cat : Catalogue) (l : Layout) (t : ℕ) : Type 0 where
   pub width : getD (l .widths) t 0 ≤ mergedLength
   pub place : placeIn cat t ≤ mostCells
-  pub before : getD (l .before) t 0 ≤ mostRows * mostTables
+  pub before : getD (l .before) t 0 ≤ mostTotal
 
 pub laid-small : (cat : Catalogue) (lent : ℕ) → Lawful cat lent → (cells : List ℕ) (l : Layout) → LaidOut cat cells l → (t : ℕ) → t < cat .n → Small cat l t
 laid-small cat lent L cells l o t b =

@@ -13,7 +13,7 @@ use lib.Bits.{bitAnd}
 use Rattle.keys.specs.Keys.{bitsPerRow, withRow, keyOf}
 use Rattle.keys.proofs.KeyLaws.{row-same}
 use Rattle.keys.proofs.SetLaws.{in-length, in-at, in-with}
-use Rattle.tables.specs.Sizes.{mostTables, mostRows}
+use Rattle.tables.specs.Sizes.{mostTables, mostTotal}
 use Rattle.tables.specs.declared.Catalogue.{Catalogue}
 use Rattle.tables.specs.Catalogues.{schemeOf, countOf, rowStart, rowsBefore}
 use Rattle.tables.specs.Checks.{Lawful}
@@ -134,7 +134,7 @@ pub record Growing (cat : Catalogue) (cells : List ℕ) (from key mask : ℕ) (c
 
 -- At most n * N tests are made.
 abbrev pub mostTests : ℕ
-mostTests = mostTables * (mostRows * mostTables)
+mostTests = mostTables * mostTotal
 
 module _ (cat : Catalogue) (cells : List ℕ) (lent : ℕ) (L : Lawful cat lent) (from : ℕ) (F : Named cat from) where
   pub growing-start : (codes : List ℕ) (mask : ℕ) → Merged cat cells (at (setOf cat from)) codes mask → Growing cat cells from from mask codes 0
@@ -145,8 +145,8 @@ module _ (cat : Catalogue) (cells : List ℕ) (lent : ℕ) (L : Lawful cat lent)
   growing-few key mask codes tests G =
       let b = extension-valid (W cat cells) (setOf cat from) (named-valid cat cells from F) (named-size cat cells from F) .few in
       let e : extension (W cat cells) (setOf cat from) .tests ≡ tests + extension (W cat cells) (setOf cat key) .tests = ap (λ (g : Grown). g .tests) (G .same) in
-      let q : length (rows (W cat cells)) ≤ mostRows * mostTables = omega (arith, rows-few cat lent L (cat .n) (omega arith), rows-total cat cells) in
-      let m : cat .n * length (rows (W cat cells)) ≤ mostTables * (mostRows * mostTables) = mul-le-mul (L .tables) q in
+      let q : length (rows (W cat cells)) ≤ mostTotal = omega (arith, rows-few cat lent L (cat .n) (omega arith), rows-total cat cells) in
+      let m : cat .n * length (rows (W cat cells)) ≤ mostTests = mul-le-mul (L .tables) q in
       omega (arith, b, e, m)
 
   -- A row is found: it is there, and new to the set.

@@ -10,6 +10,7 @@ use lib.Dec.{eqb}
 use Rattle.laws.specs.Lists.{tab}
 use Rattle.words.specs.Words.{bitOf}
 use Rattle.keys.specs.Keys.{bitsPerRow, keyOf}
+use Rattle.keys.specs.TwoWords.{numberOf}
 use Rattle.tables.specs.declared.Catalogue.{Catalogue}
 use Rattle.tables.specs.Catalogues.{schemeOf, countOf, firstCell, maskIn, rowsBefore, total}
 use Rattle.disjunction.specs.Sets.{Tables, at}
@@ -44,8 +45,8 @@ TablesOf T mask = (u : ℕ) → bitOf mask u ≡ member T u
 
 -- The set as its key, which has no row from n on, and its tables.
 pub record SetFor (cat : Catalogue) (T : List ℕ) (s : RowSet) : Type 0 where
-  pub low : s .key < 2 ^ (bitsPerRow * cat .n)
-  pub rows : setOf cat (s .key) ≡ T
+  pub low : numberOf (s .key) < 2 ^ (bitsPerRow * cat .n)
+  pub rows : setOf cat (numberOf (s .key)) ≡ T
   pub tables : TablesOf T (s .tables)
 
 -- T without its rows of the mask's tables.

@@ -5,6 +5,7 @@ ghost use mathlib.Core.List.{List};
 ghost use Prim.Native.Nat.{ℕ, _<_};
 ghost use lib.ListN.{length};
 ghost use Rattle.words.specs.Words.{bitOf};
+ghost use Rattle.keys.specs.TwoWords.{numberOf};
 ghost use Rattle.tables.specs.Sizes.{mostTables, mostCells};
 ghost use Rattle.tables.specs.Checks.{Lawful};
 ghost use Rattle.disjunction.specs.Sets.{at};
@@ -13,12 +14,13 @@ ghost use Rattle.rows.specs.World.{worldOf, setOf, placeOf};
 ghost use Rattle.rows.specs.Named.{Named, There};
 ghost use Rattle.walks.specs.Merged.{mergedLength, Under, Merged};
 ghost use Rattle.sets.specs.Promises.{RisingIn, LaidOut, TablesOf, lacking, Reach, SetFor, Comes, parts};
+use keys::Key;
 use tables::Catalogue;
 use tables::Row;
 
 // What an extension or a trial comes to: the key of the set, and how many row tests were made.
 pub struct Grown {
-    pub key: u64,
+    pub key: Key,
     pub tests: usize,
 }
 
@@ -35,7 +37,7 @@ pub struct Layout {
 // A row set under way in a trial: its key, and as a mask the tables that have a row in it.
 // The mask tells at once which rows there are to look at, and with the catalogue's masks which tables touch the set.
 struct RowSet {
-    key: u64,
+    key: Key,
     tables: u64,
 }
 
@@ -110,9 +112,9 @@ pub fn laid_out(cat: Catalogue, cells: &[u64], trials: usize) -> Layout
 
 // The tables that have a row in the set of a key, as a mask.
 // A key is gone through once for it, and after that only the tables of the mask are.
-fn tables_in(cat: Catalogue, key: u64) -> u64
+fn tables_in(cat: Catalogue, key: Key) -> u64
     requires { ⌜ Lawful cat mostCells ⌝ }
-    ensures { λ r. ⌜ TablesOf (setOf cat key) r ⌝ }
+    ensures { λ r. ⌜ TablesOf (setOf cat (numberOf key)) r ⌝ }
 {
     let n = cat.n;
     let mut tables: u64 = 0;
@@ -135,8 +137,8 @@ fn merge_set(
     held: RowSet,
     merged: &mut [u64; 64],
 ) -> Touch
-    requires { ⌜ Lawful cat (length (now cells)) × LaidOut cat (now cells) layout × Named cat (held .key) × TablesOf (setOf cat (held .key)) (held .tables) × (length (now merged) ≡ mergedLength) ⌝ }
-    ensures { λ r. ⌜ Merged cat (now (cells .entry)) (at (setOf cat (held .key))) (now (merged .exit)) (r .attrs) × Reach cat (at (setOf cat (held .key))) (r .reach) ⌝ }
+    requires { ⌜ Lawful cat (length (now cells)) × LaidOut cat (now cells) layout × Named cat (numberOf (held .key)) × TablesOf (setOf cat (numberOf (held .key))) (held .tables) × (length (now merged) ≡ mergedLength) ⌝ }
+    ensures { λ r. ⌜ Merged cat (now (cells .entry)) (at (setOf cat (numberOf (held .key)))) (now (merged .exit)) (r .attrs) × Reach cat (at (setOf cat (numberOf (held .key)))) (r .reach) ⌝ }
 {
     let mut attrs: u64 = 0;
     let mut reach: u64 = 0;
@@ -160,8 +162,8 @@ fn merge_set(
 // in reach from then on. All tests are counted, those of the tables passed over too, by how many rows lie before a table, and so the count is the rule's.
 // `near` says which row of a table to look at first.
 fn extended(cat: Catalogue, cells: &[u64], layout: Layout, from: RowSet, near: usize) -> Grown
-    requires { ⌜ Lawful cat (length (now cells)) × LaidOut cat (now cells) layout × Named cat (from .key) × TablesOf (setOf cat (from .key)) (from .tables) ⌝ }
-    ensures { λ e. ⌜ Comes cat (extension (worldOf cat (now (cells .entry))) (setOf cat (from .key))) (e .key) (e .tests) ⌝ }
+    requires { ⌜ Lawful cat (length (now cells)) × LaidOut cat (now cells) layout × Named cat (numberOf (from .key)) × TablesOf (setOf cat (numberOf (from .key))) (from .tables) ⌝ }
+    ensures { λ e. ⌜ Comes cat (extension (worldOf cat (now (cells .entry))) (setOf cat (numberOf (from .key)))) (numberOf (e .key)) (e .tests) ⌝ }
 {
     let mut merged: [u64; 64] = [0; 64];
     let touch = merge_set(cat, cells, layout, from, &mut merged);
@@ -202,9 +204,9 @@ fn extended(cat: Catalogue, cells: &[u64], layout: Layout, from: RowSet, near: u
 }
 
 // The extension of a key's set.
-pub fn extend(cat: Catalogue, cells: &[u64], layout: Layout, from: u64, near: usize) -> Grown
-    requires { ⌜ Lawful cat (length (now cells)) × LaidOut cat (now cells) layout × Named cat from ⌝ }
-    ensures { λ e. ⌜ Comes cat (extension (worldOf cat (now (cells .entry))) (setOf cat from)) (e .key) (e .tests) ⌝ }
+pub fn extend(cat: Catalogue, cells: &[u64], layout: Layout, from: Key, near: usize) -> Grown
+    requires { ⌜ Lawful cat (length (now cells)) × LaidOut cat (now cells) layout × Named cat (numberOf from) ⌝ }
+    ensures { λ e. ⌜ Comes cat (extension (worldOf cat (now (cells .entry))) (setOf cat (numberOf from))) (numberOf (e .key)) (e .tests) ⌝ }
 {
     let tables = tables_in(cat, from);
     extended(cat, cells, layout, RowSet { key: from, tables }, near)
@@ -231,8 +233,8 @@ fn without(held: RowSet, tables: u64) -> RowSet
 // The tables of the set whose row has to go: it is another table's than x's, and not consistent with x.
 // Only those that touch x's table are asked. The row of x is made a merged row, which has a code where it is asked for at once.
 fn parted(cat: Catalogue, cells: &[u64], layout: Layout, held: RowSet, x: Row) -> u64
-    requires { ⌜ Lawful cat (length (now cells)) × LaidOut cat (now cells) layout × Named cat (held .key) × TablesOf (setOf cat (held .key)) (held .tables) × There cat (x .table) (x .row) ⌝ }
-    ensures { λ r. ⌜ ((u : ℕ) → bitOf r u ≡ parts (worldOf cat (now (cells .entry))) (setOf cat (held .key)) (placeOf x) u) ⌝ }
+    requires { ⌜ Lawful cat (length (now cells)) × LaidOut cat (now cells) layout × Named cat (numberOf (held .key)) × TablesOf (setOf cat (numberOf (held .key))) (held .tables) × There cat (x .table) (x .row) ⌝ }
+    ensures { λ r. ⌜ ((u : ℕ) → bitOf r u ≡ parts (worldOf cat (now (cells .entry))) (setOf cat (numberOf (held .key))) (placeOf x) u) ⌝ }
 {
     let table = x.table;
     let row = x.row;
@@ -258,8 +260,8 @@ fn parted(cat: Catalogue, cells: &[u64], layout: Layout, held: RowSet, x: Row) -
 // "Drop from T every row of s's table other than s and every row of another table not consistent with s; add s."
 // The row comes in first, and then what does not fit it goes.
 fn kept(cat: Catalogue, cells: &[u64], layout: Layout, held: RowSet, x: Row) -> RowSet
-    requires { ⌜ Lawful cat (length (now cells)) × LaidOut cat (now cells) layout × Named cat (held .key) × TablesOf (setOf cat (held .key)) (held .tables) × There cat (x .table) (x .row) ⌝ }
-    ensures { λ r. ⌜ SetFor cat (dropped (worldOf cat (now (cells .entry))) (setOf cat (held .key)) (placeOf x)) r ⌝ }
+    requires { ⌜ Lawful cat (length (now cells)) × LaidOut cat (now cells) layout × Named cat (numberOf (held .key)) × TablesOf (setOf cat (numberOf (held .key))) (held .tables) × There cat (x .table) (x .row) ⌝ }
+    ensures { λ r. ⌜ SetFor cat (dropped (worldOf cat (now (cells .entry))) (setOf cat (numberOf (held .key))) (placeOf x)) r ⌝ }
 {
     let gone = parted(cat, cells, layout, held, x);
     let all = RowSet {
@@ -272,8 +274,8 @@ fn kept(cat: Catalogue, cells: &[u64], layout: Layout, held: RowSet, x: Row) -> 
 // "Keep the piece that holds s": from x alone, tables of the set that touch what is there are added until there is none, and the rows of those left go.
 // The order in which they come in makes no difference, as there is one piece only; and where none is left, the piece is the set.
 fn piece_of(cat: Catalogue, all: RowSet, x: Row) -> RowSet
-    requires { ⌜ Lawful cat mostCells × There cat (x .table) (x .row) × SetFor cat (setOf cat (all .key)) all × (at (setOf cat (all .key)) (x .table) ≡ x .row) ⌝ }
-    ensures { λ r. ⌜ ((cells : List ℕ) → SetFor cat (piece (worldOf cat cells) (setOf cat (all .key)) (placeOf x)) r) ⌝ }
+    requires { ⌜ Lawful cat mostCells × There cat (x .table) (x .row) × SetFor cat (setOf cat (numberOf (all .key))) all × (at (setOf cat (numberOf (all .key))) (x .table) ≡ x .row) ⌝ }
+    ensures { λ r. ⌜ ((cells : List ℕ) → SetFor cat (piece (worldOf cat cells) (setOf cat (numberOf (all .key))) (placeOf x)) r) ⌝ }
 {
     let table = x.table;
     let mut left = all.tables - (1 << table);
@@ -288,9 +290,9 @@ fn piece_of(cat: Catalogue, all: RowSet, x: Row) -> RowSet
 
 // "Trial of row s on set T: drop ..; add s; keep the piece that holds s; extend."
 // The search for the set it comes to is the caller's, who has the store.
-pub fn trial_set(cat: Catalogue, cells: &[u64], layout: Layout, key: u64, row: Row) -> Grown
-    requires { ⌜ Lawful cat (length (now cells)) × LaidOut cat (now cells) layout × Named cat key × There cat (row .table) (row .row) ⌝ }
-    ensures { λ e. ⌜ Comes cat (trial (worldOf cat (now (cells .entry))) (setOf cat key) (placeOf row)) (e .key) (e .tests) ⌝ }
+pub fn trial_set(cat: Catalogue, cells: &[u64], layout: Layout, key: Key, row: Row) -> Grown
+    requires { ⌜ Lawful cat (length (now cells)) × LaidOut cat (now cells) layout × Named cat (numberOf key) × There cat (row .table) (row .row) ⌝ }
+    ensures { λ e. ⌜ Comes cat (trial (worldOf cat (now (cells .entry))) (setOf cat (numberOf key)) (placeOf row)) (numberOf (e .key)) (e .tests) ⌝ }
 {
     let tables = tables_in(cat, key);
     let all = kept(cat, cells, layout, RowSet { key, tables }, row);

@@ -1,4 +1,4 @@
--- The store of one-word keys in three lists, at w bits for each of n rows: what holds of every store, of a copy of one, and the laws of Tree for a
+-- The store of row sets' keys in four lists, at w bits for each of n rows: what holds of every store, of a copy of one, and the laws of Tree for a
 -- good one. `offered` is what the proof of a stream cites. Assumes nothing.
 use Prim.Native.Nat.{ℕ, _+_, _-_, _*_, _^_, _<_}
 use mathlib.Core.Bool.{Bool, true, false, not, cond, Bool-discrete}
@@ -14,11 +14,14 @@ use lib.Seq.{getD-set-same, getD-set-other}
 use borrow.Author.Tests.{eqb-true, eqb-false, ltb-true, not-true}
 use Rattle.words.specs.Words.{bitOf}
 use Rattle.words.proofs.WordLaws.{bits-eq}
+use Rattle.keys.specs.TwoWords.{numberIn, lowOf, highOf}
+use Rattle.keys.proofs.TwoWordLaws.{number-words}
 use Rattle.store.specs.Store.{Store, roomIn, linkOf, searchOf, filed, named, added, answerOf, storeAfter, Copy}
 use Rattle.store.specs.declared.Looked.{Looked}
 use Rattle.store.specs.declared.Looked.the-variants.{Found, Absent, Damaged}
 use Rattle.store.specs.declared.Placed.the-variants.{Added, Full, Broken}
-pub use Rattle.store.specs.Good.{keyAt, linkAt, Key, StoreTree, GoodStore, Stored}
+pub use Rattle.store.specs.Store.{keyAt}
+pub use Rattle.store.specs.Good.{linkAt, Key, StoreTree, GoodStore, Stored}
 use Rattle.store.specs.Good.{Tree}
 use Rattle.store.proofs.LookLaws.{Inside, walk-inside, walk-copy}
 use Rattle.store.proofs.Tree.{Telling, New, Outcome, Grown, single, moved, searched, grown, deepen}
@@ -86,18 +89,30 @@ module _ (l : List ℕ) (found p v : ℕ) (hp : p < found) (hf : found < length 
   named-other true q h m = getD-set-other (set l found 0) p q v 0 (λ e. m e refl) ∙ getD-set-other l found q 0 0 (λ e. omega arith)
   named-other false q h m = getD-set-other l found q 0 0 (λ e. omega arith)
 
+-- The key of a filed record is the key that was filed.
+pub filed-key : (q : Store) (k : ℕ) → q .found < roomIn q → keyAt (filed q k) (q .found) ≡ k
+unfolding filed
+filed-key q k h =
+    ap₂ numberIn (getD-set-same (q .low) (q .found) (lowOf k) 0 (omega arith)) (getD-set-same (q .high) (q .found) (highOf k) 0 (omega arith))
+    ∙ number-words k
+
 pub added-cells : (q : Store) (k p : ℕ) (s : Bool) → p < q .found → q .found < roomIn q
     → Grown bitOf (q .found) (keyAt q) (keyAt (added q k p s)) (linkAt q) (linkAt (added q k p s)) k p s
 unfolding added filed linkOf
 added-cells q k p s hp hr =
     record {
-      old-key = λ i l. getD-set-other (q .keys) (q .found) i k 0 (λ x. omega arith);
-      new-key = getD-set-same (q .keys) (q .found) k 0 (omega arith);
+      old-key = λ i l. old-key i l;
+      new-key = filed-key q k hr;
       hung = hung s;
       bare = bare;
       old-link = old-link;
     }
   where
+    old-key : (i : ℕ) → i < q .found → keyAt (added q k p s) i ≡ keyAt q i
+    old-key i l =
+        ap₂ numberIn (getD-set-other (q .low) (q .found) i (lowOf k) 0 (λ x. omega arith))
+        (getD-set-other (q .high) (q .found) i (highOf k) 0 (λ x. omega arith))
+
     hl : q .found < length (q .left)
     hl = omega arith
 
@@ -119,6 +134,10 @@ added-cells q k p s hp hr =
 
 -- ---- a copy
 
+-- A copy has the keys and the links of the store.
+pub copy-key : (q r : Store) → Copy q r → (p : ℕ) → p < q .found → keyAt r p ≡ keyAt q p
+copy-key q r c p l = ap₂ numberIn (c .low p l) (c .high p l)
+
 copy-link : (q r : Store) → Copy q r → (s : Bool) (p : ℕ) → p < q .found → linkAt r s p ≡ linkAt q s p
 unfolding linkOf
 copy-link q r c true p l = c .right p l
@@ -130,14 +149,20 @@ unfolding searchOf
 copy-search q r k deepest c l =
     rw (c .found)
     (walk-copy (λ p. eqb (keyAt q p) k) (λ p. eqb (keyAt r p) k) (bitOf k) (linkAt q) (linkAt r) (q .found)
-    (λ p h. ap (λ (x : ℕ). eqb x k) (c .keys p h)) (copy-link q r c) deepest 0 0 l)
+    (λ p h. ap (λ (x : ℕ). eqb x k) (copy-key q r c p h)) (copy-link q r c) deepest 0 0 l)
 
 -- The same record added to a store and to its copy: still a copy.
 pub copy-added : (q r : Store) (k p : ℕ) (s : Bool) → Copy q r → p < q .found → q .found < roomIn q → r .found < roomIn r
     → Copy (added q k p s) (added r k p s)
 unfolding added filed linkOf
 copy-added q r k p s c hp hq hr =
-    record { found = ap (λ (x : ℕ). x + 1) (c .found); keys = keys; left = λ i l. links false i l; right = λ i l. links true i l }
+    record {
+      found = ap (λ (x : ℕ). x + 1) (c .found);
+      low = λ i l. word (q .low) (r .low) (lowOf k) i (omega arith) (omega arith) (c .low) l;
+      high = λ i l. word (q .high) (r .high) (highOf k) i (omega arith) (omega arith) (c .high) l;
+      left = λ i l. links false i l;
+      right = λ i l. links true i l;
+    }
   where
     e : r .found ≡ q .found
     e = c .found
@@ -151,12 +176,18 @@ copy-added q r k p s c hp hq hr =
     place : (i : ℕ) → i < q .found + 1 → (i ≡ q .found) ⊎ (i < q .found)
     place i l = eq-or-lt-of-le (omega arith)
 
-    keys : (i : ℕ) → i < q .found + 1 → keyAt (added r k p s) i ≡ keyAt (added q k p s) i
-    keys i l =
+    -- The same word written into both, at the same place.
+    word : (l m : List ℕ) (v i : ℕ) → q .found < length l → r .found < length m → ((j : ℕ) → j < q .found → getD m j 0 ≡ getD l j 0) → i < q .found + 1
+        → getD (set m (r .found) v) i 0 ≡ getD (set l (q .found) v) i 0
+    word l m v i hl hm same h =
         ⊎-elim
-        (λ (x : i ≡ q .found). ap (keyAt (added r k p s)) (x ∙ sym e) ∙ b .new-key ∙ sym (a .new-key) ∙ ap (keyAt (added q k p s)) (sym x))
-        (λ x. b .old-key i (omega arith) ∙ c .keys i x ∙ sym (a .old-key i x))
-        (place i l)
+        (λ (x : i ≡ q .found).
+        ap (λ (j : ℕ). getD (set m (r .found) v) j 0) (x ∙ sym e)
+        ∙ getD-set-same m (r .found) v 0 hm
+        ∙ sym (getD-set-same l (q .found) v 0 hl)
+        ∙ ap (λ (j : ℕ). getD (set l (q .found) v) j 0) (sym x))
+        (λ x. getD-set-other m (r .found) i v 0 (λ y. omega arith) ∙ same i x ∙ sym (getD-set-other l (q .found) i v 0 (λ y. omega arith)))
+        (place i h)
 
     other : (t : Bool) (i : ℕ) → i < q .found → ((i ≡ p) × (t ≡ s) → ⊥) → linkAt (added r k p s) t i ≡ linkAt (added q k p s) t i
     other t i l m = b .old-link t i (omega arith) m ∙ copy-link q r c t i l ∙ sym (a .old-link t i l m)
@@ -191,9 +222,12 @@ unfolding filed linkOf
 started w n q k e l g = (
   (λ p. 0),
   subst (λ (x : ℕ). Tree bitOf (Key w n) x (keyAt (filed q k)) (linkAt (filed q k)) (λ p. 0)) (ap (λ (x : ℕ). x + 1) (sym e))
-      (single bitOf (Key w n) (keyAt (filed q k)) (linkAt (filed q k)) (subst (Key w n) (sym (first (q .keys) k (omega arith))) g) bare),
+      (single bitOf (Key w n) (keyAt (filed q k)) (linkAt (filed q k)) (subst (Key w n) (sym first-key) g) bare),
 )
   where
+    first-key : keyAt (filed q k) 0 ≡ k
+    first-key = subst (λ (x : ℕ). keyAt (filed q k) x ≡ k) e (filed-key q k (omega arith))
+
     first : (l : List ℕ) (v : ℕ) → 0 < length l → getD (set l (q .found) v) 0 0 ≡ v
     first l v h = subst (λ (x : ℕ). getD (set l x v) 0 0 ≡ v) (sym e) (getD-set-same l 0 v 0 h)
 
@@ -209,13 +243,18 @@ added-good w n q depth t k g p s looks e l =
     grown bitOf (w * n) (Key w n) (telling w n) (q .found) (keyAt q) (keyAt (added q k p s)) (linkAt q) (linkAt (added q k p s)) depth t k g p s looks e
     (added-cells q k p s (e .here) l)
 
--- A copy of a good store is good.
-pub copy-good : (w n : ℕ) (q r : Store) → Copy q r → GoodStore w n q → GoodStore w n r
-copy-good w n q r c (depth, t) = (
+-- A store with the keys and the links of a good one is good, ..
+pub alike-good : (w n : ℕ) (q r : Store) → r .found ≡ q .found → ((p : ℕ) → p < q .found → keyAt r p ≡ keyAt q p)
+    → ((s : Bool) (p : ℕ) → p < q .found → linkAt r s p ≡ linkAt q s p) → GoodStore w n q → GoodStore w n r
+alike-good w n q r e keys links (depth, t) = (
   depth,
-  subst (λ (x : ℕ). Tree bitOf (Key w n) x (keyAt r) (linkAt r) depth) (sym (c .found))
-      (moved bitOf (Key w n) (q .found) (keyAt q) (keyAt r) (linkAt q) (linkAt r) depth t (c .keys) (copy-link q r c)),
+  subst (λ (x : ℕ). Tree bitOf (Key w n) x (keyAt r) (linkAt r) depth) (sym e)
+      (moved bitOf (Key w n) (q .found) (keyAt q) (keyAt r) (linkAt q) (linkAt r) depth t keys links),
 )
+
+-- .. and so is a copy of it.
+pub copy-good : (w n : ℕ) (q r : Store) → Copy q r → GoodStore w n q → GoodStore w n r
+copy-good w n q r c = alike-good w n q r (c .found) (copy-key q r c) (copy-link q r c)
 
 -- ---- one offer to a good store, by what the search says
 

@@ -1,11 +1,10 @@
 -- A good store: every record is reached by the bits of its own key, and no key stands in it twice. Over any keys K and any bits of them; and for the
--- store of one-word keys, at w bits for each of n rows. What a search of it answers stands in proofs/Tree and proofs/StoreLaws. Assumes nothing.
+-- store of row sets' keys, at w bits for each of n rows. What a search of it answers stands in proofs/Tree and proofs/StoreLaws. Assumes nothing.
 use Prim.Native.Nat.{ℕ, _+_, _-_, _*_, _^_, _≤_, _<_}
 use mathlib.Core.Path.{_≡_}
 use mathlib.Core.Bool.{Bool}
-use lib.ListN.{getD}
 use Rattle.words.specs.Words.{bitOf}
-use Rattle.store.specs.Store.{Store, linkOf}
+use Rattle.store.specs.Store.{Store, keyAt, linkOf}
 
 -- `depth` is at which depth a record lies; the path to it is that many bits of its own key.
 module _ {K : Type 0} (bit : K → ℕ → Bool) where
@@ -31,13 +30,9 @@ module _ {K : Type 0} (bit : K → ℕ → Bool) where
         → (link (bit (key q) (depth p)) p ≡ 0 → ⊥) × (depth p < depth q)
     pub once : (p q : ℕ) → p < found → q < found → key p ≡ key q → p ≡ q
 
--- ---- one-word keys
+-- ---- keys of row sets
 
--- The key of record p.
-abbrev pub keyAt : Store → ℕ → ℕ
-keyAt q p = getD (q .keys) p 0
-
--- Its link on a side.
+-- The link of record p on a side.
 abbrev pub linkAt : Store → Bool → ℕ → ℕ
 linkAt q = linkOf (q .left) (q .right)
 

@@ -1,10 +1,13 @@
 // The store of a stream: the keys of the sets found so far, in a tree that the bits of a sought key steer through.
-// It lies in three slices that the caller lends: keys, left links and right links.
+// It lies in four slices that the caller lends: the first words of the keys, the second ones, left links and right links.
 ghost use mathlib.Core.Path.{_≡_};
-ghost use Prim.Native.Nat.{_<_, _≤_, min};
+ghost use Prim.Native.Nat.{_*_, _<_, _≤_, min};
 ghost use lib.Dec.{eqb};
 ghost use lib.ListN.{length, getD};
+ghost use Rattle.keys.specs.Keys.{bitsPerRow, mostTables};
+ghost use Rattle.keys.specs.TwoWords.{numberIn, numberOf};
 ghost use Rattle.store.specs.Store.{storeIn, mostRecords, roomOf, linkOf, searchOf, filed, added, Hangs, Holds, OfferPost};
+use keys::Key;
 
 // The most records of a store: a link is a place plus 1 in 16 bits.
 const MOST_RECORDS: usize = 65535;
@@ -45,22 +48,37 @@ fn least(a: usize, b: usize) -> usize
 
 // How many records the store has room for: the shortest slice counts, and never more than 65,535.
 // Every caller asks it before a record is written.
-pub fn room(keys: &[u64], left: &[u16], right: &[u16]) -> usize
-    ensures { λ r. ⌜ r ≡ roomOf (length (now (keys .entry))) (length (now (left .entry))) (length (now (right .entry))) ⌝ }
+pub fn room(low: &[u64], high: &[u64], left: &[u16], right: &[u16]) -> usize
+    ensures { λ r. ⌜ r ≡ roomOf (length (now (low .entry))) (length (now (high .entry))) (length (now (left .entry))) (length (now (right .entry))) ⌝ }
 {
     least(
-        least(least(MOST_RECORDS, keys.len()), left.len()),
+        least(
+            least(least(MOST_RECORDS, low.len()), high.len()),
+            left.len(),
+        ),
         right.len(),
     )
 }
 
-// Is the sought key that of record p?
-// The only place of a search that knows how a key lies in the store.
-pub fn is_key(keys: &[u64], p: usize, sought: u64) -> bool
-    requires { ⌜ p < length (now keys) ⌝ }
-    ensures { λ r. ⌜ r ≡ eqb (getD (now (keys .entry)) p 0) sought ⌝ }
+// The key of record p.
+// The only place that knows how a key lies in the store.
+pub fn key_at(low: &[u64], high: &[u64], p: usize) -> Key
+    requires { ⌜ (p < length (now low)) × (p < length (now high)) ⌝ }
+    ensures { λ k. ⌜ numberOf k ≡ numberIn (getD (now (low .entry)) p 0) (getD (now (high .entry)) p 0) ⌝ }
 {
-    keys[p] == sought
+    Key {
+        low: low[p],
+        high: high[p],
+    }
+}
+
+// Is the sought key that of record p, both words whole?
+// The look of a search.
+pub fn is_key(low: &[u64], high: &[u64], p: usize, sought: Key) -> bool
+    requires { ⌜ (p < length (now low)) × (p < length (now high)) ⌝ }
+    ensures { λ r. ⌜ r ≡ eqb (numberIn (getD (now (low .entry)) p 0) (getD (now (high .entry)) p 0)) (numberOf sought) ⌝ }
+{
+    keys::same(key_at(low, high, p), sought)
 }
 
 // The link of record p on a side, which is right where it is true.
@@ -79,27 +97,28 @@ pub fn link_of(left: &[u16], right: &[u16], p: usize, side: bool) -> usize
 // Looks for a key from record 0 on, at most down to the depth `deepest`, where no bit is left to turn by.
 // Any numbers may lie in the slices: no search of a damaged store goes astray or on forever.
 pub fn find(
-    keys: &[u64],
+    low: &[u64],
+    high: &[u64],
     left: &[u16],
     right: &[u16],
     found: usize,
-    sought: u64,
+    sought: Key,
     deepest: usize,
 ) -> Looked
-    requires { ⌜ (0 < found) × (found ≤ roomOf (length (now keys)) (length (now left)) (length (now right))) × (deepest ≤ 64) ⌝ }
-    ensures { λ r. ⌜ r ≡ searchOf (storeIn (now (keys .entry)) (now (left .entry)) (now (right .entry)) found) sought deepest ⌝ }
+    requires { ⌜ (0 < found) × (found ≤ roomOf (length (now low)) (length (now high)) (length (now left)) (length (now right))) × (deepest ≤ bitsPerRow * mostTables) ⌝ }
+    ensures { λ r. ⌜ r ≡ searchOf (storeIn (now (low .entry)) (now (high .entry)) (now (left .entry)) (now (right .entry)) found) (numberOf sought) deepest ⌝ }
 {
     let mut p: usize = 0;
     let mut d: usize = 0;
     loop {
         let looks = d + 1;
-        if is_key(keys, p, sought) {
+        if is_key(low, high, p, sought) {
             return Looked::Found { place: p, looks };
         }
         if d == deepest {
             return Looked::Damaged { looks };
         }
-        let side = words::bit_of(sought, d);
+        let side = keys::bit_of(sought, d);
         let link = link_of(left, right, p, side);
         if link == 0 {
             return Looked::Absent {
@@ -118,11 +137,19 @@ pub fn find(
 
 // Writes a key as record `at`, with both links 0.
 // The first record of a store is this alone; each later one is named by a link besides.
-pub fn file_record(keys: &mut [u64], left: &mut [u16], right: &mut [u16], at: usize, key: u64)
-    requires { ⌜ at < roomOf (length (now keys)) (length (now left)) (length (now right)) ⌝ }
-    ensures { λ _. ⌜ Holds (now (keys .exit)) (now (left .exit)) (now (right .exit)) (filed (storeIn (now (keys .entry)) (now (left .entry)) (now (right .entry)) at) key) ⌝ }
+pub fn file_record(
+    low: &mut [u64],
+    high: &mut [u64],
+    left: &mut [u16],
+    right: &mut [u16],
+    at: usize,
+    key: Key,
+)
+    requires { ⌜ at < roomOf (length (now low)) (length (now high)) (length (now left)) (length (now right)) ⌝ }
+    ensures { λ _. ⌜ Holds (now (low .exit)) (now (high .exit)) (now (left .exit)) (now (right .exit)) (filed (storeIn (now (low .entry)) (now (high .entry)) (now (left .entry)) (now (right .entry)) at) (numberOf key)) ⌝ }
 {
-    keys[at] = key;
+    low[at] = keys::low_word(key);
+    high[at] = keys::high_word(key);
     left[at] = 0;
     right[at] = 0;
 }
@@ -144,41 +171,43 @@ pub fn hang(left: &mut [u16], right: &mut [u16], place: usize, side: bool, at: u
 // Writes a key as the next record, and into the empty link that ended its search the record's place plus 1.
 // The caller has asked that a record is free.
 pub fn add(
-    keys: &mut [u64],
+    low: &mut [u64],
+    high: &mut [u64],
     left: &mut [u16],
     right: &mut [u16],
     found: usize,
-    key: u64,
+    key: Key,
     place: usize,
     side: bool,
 )
-    requires { ⌜ (found < roomOf (length (now keys)) (length (now left)) (length (now right))) × (place < found) ⌝ }
-    ensures { λ _. ⌜ Holds (now (keys .exit)) (now (left .exit)) (now (right .exit)) (added (storeIn (now (keys .entry)) (now (left .entry)) (now (right .entry)) found) key place side) ⌝ }
+    requires { ⌜ (found < roomOf (length (now low)) (length (now high)) (length (now left)) (length (now right))) × (place < found) ⌝ }
+    ensures { λ _. ⌜ Holds (now (low .exit)) (now (high .exit)) (now (left .exit)) (now (right .exit)) (added (storeIn (now (low .entry)) (now (high .entry)) (now (left .entry)) (now (right .entry)) found) (numberOf key) place side) ⌝ }
 {
-    file_record(keys, left, right, found, key);
+    file_record(low, high, left, right, found, key);
     hang(left, right, place, side, found);
 }
 
 // Searches for a key, and adds it where it is absent and a record is free.
 // This is the end of a trial: what the trial came to is in the store afterwards, or nothing has changed.
 pub fn offer(
-    keys: &mut [u64],
+    low: &mut [u64],
+    high: &mut [u64],
     left: &mut [u16],
     right: &mut [u16],
     found: usize,
-    sought: u64,
+    sought: Key,
     deepest: usize,
 ) -> Placed
-    requires { ⌜ (0 < found) × (found ≤ roomOf (length (now keys)) (length (now left)) (length (now right))) × (deepest ≤ 64) ⌝ }
-    ensures { λ r. ⌜ OfferPost (storeIn (now (keys .entry)) (now (left .entry)) (now (right .entry)) found) sought deepest r (now (keys .exit)) (now (left .exit)) (now (right .exit)) ⌝ }
+    requires { ⌜ (0 < found) × (found ≤ roomOf (length (now low)) (length (now high)) (length (now left)) (length (now right))) × (deepest ≤ bitsPerRow * mostTables) ⌝ }
+    ensures { λ r. ⌜ OfferPost (storeIn (now (low .entry)) (now (high .entry)) (now (left .entry)) (now (right .entry)) found) (numberOf sought) deepest r (now (low .exit)) (now (high .exit)) (now (left .exit)) (now (right .exit)) ⌝ }
 {
-    let looked = find(keys, left, right, found, sought, deepest);
+    let looked = find(low, high, left, right, found, sought, deepest);
     match looked {
         Looked::Found { place: _, looks } => Placed::Known { looks },
         Looked::Damaged { looks: _ } => Placed::Broken,
         Looked::Absent { place, side, looks } => {
-            if found < room(keys, left, right) {
-                add(keys, left, right, found, sought, place, side);
+            if found < room(low, high, left, right) {
+                add(low, high, left, right, found, sought, place, side);
                 Placed::Added { looks }
             } else {
                 Placed::Full

@@ -9,6 +9,7 @@ use mathlib.Core.Logic.{_⊎_, inl, inr, ⊎-elim}
 use mathlib.Core.List.{List, []}
 use lib.ListN.{length}
 use Rattle.keys.specs.Keys.{bitsPerRow, withRow}
+use Rattle.keys.specs.TwoWords.{joined, numberOf}
 use Rattle.tables.specs.declared.Catalogue.{Catalogue}
 use Rattle.tables.specs.Catalogues.{total}
 use Rattle.rows.proofs.NamedLaws.{there-row, first-alone}
@@ -35,16 +36,26 @@ use Rattle.stream.specs.declared.Scope.the-variants.{With}
 pub taken-some : (cat : Catalogue) (q : State) → Fit cat q → q .next < total cat → 0 < q .taken
 taken-some cat q g h = ⊎-elim (λ z. absurd (omega (arith, g .begun z))) (λ p. p) (eq-zero-or-pos (q .taken))
 
--- Every used record lies in the keys.
-pub keys-long : (cat : Catalogue) (q : State) → Fit cat q → q .store .found ≤ length (q .store .keys)
-keys-long cat q g = omega (arith, g .room)
+-- Every used record lies in both slices of the keys.
+pub keys-long : (cat : Catalogue) (q : State) → Fit cat q → (q .store .found ≤ length (q .store .low)) × (q .store .found ≤ length (q .store .high))
+keys-long cat q g = (omega (arith, g .room), omega (arith, g .room))
 
--- A refused offer leaves the three lists as they were.
-pub offer-stays : (q : Store) (key d : ℕ) (r : Placed) (ks ls rs : List ℕ) → OfferPost q key d r ks ls rs → (r ≡ Full) ⊎ (r ≡ Broken)
-    → (ks ≡ q .keys) × (ls ≡ q .left) × (rs ≡ q .right)
-offer-stays q key d r ks ls rs o h =
+-- The key of no row has the number 0.
+pub number-none : numberOf (record { low = 0; high = 0 }) ≡ 0
+unfolding joined
+number-none = refl
+
+-- A refused offer leaves the four lists as they were.
+pub offer-stays : (q : Store) (key d : ℕ) (r : Placed) (ks hs ls rs : List ℕ) → OfferPost q key d r ks hs ls rs → (r ≡ Full) ⊎ (r ≡ Broken)
+    → (ks ≡ q .low) × (hs ≡ q .high) × (ls ≡ q .left) × (rs ≡ q .right)
+offer-stays q key d r ks hs ls rs o h =
     let e = refused-stays q key (searchOf q key d) (⊎-elim (λ x. inl (sym (o .answer) ∙ x)) (λ x. inr (sym (o .answer) ∙ x)) h) in
-    (o .after .keys ∙ ap (λ (p : Store). p .keys) e, o .after .left ∙ ap (λ (p : Store). p .left) e, o .after .right ∙ ap (λ (p : Store). p .right) e)
+    let a = o .after in (
+      a .low ∙ ap (λ (p : Store). p .low) e,
+      a .high ∙ ap (λ (p : Store). p .high) e,
+      a .left ∙ ap (λ (p : Store). p .left) e,
+      a .right ∙ ap (λ (p : Store). p .right) e,
+    )
 
 -- ---- the first row alone
 

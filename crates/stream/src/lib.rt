@@ -1,5 +1,5 @@
 // The stream of row sets: open, and the by-value call with a budget of trials.
-// The store lies in three slices that the caller lends; the record goes in by value and comes back moved on.
+// The store lies in four slices that the caller lends; the record goes in by value and comes back moved on.
 ghost use mathlib.Core.Path.{_≡_};
 ghost use Prim.Native.Nat.{_≤_, _<_};
 ghost use lib.ListN.{length};
@@ -7,12 +7,14 @@ ghost use Rattle.tables.specs.Sizes.{mostCells};
 ghost use Rattle.tables.specs.Catalogues.{total};
 ghost use Rattle.tables.specs.Checks.{Lawful};
 ghost use Rattle.keys.specs.Keys.{mostTables};
+ghost use Rattle.keys.specs.TwoWords.{numberOf};
 ghost use Rattle.sets.specs.Promises.{LaidOut};
 ghost use Rattle.machine.specs.Machine.{Fit, stray, unfit, callFault, work, call};
 ghost use Rattle.stream.specs.Promises.{askedOf, Reached, keyWanted, stateWith, stateOf, calledWith, Opens, Steps, OpensHolding, StepsHolding, Begins, Tries, Ends};
 ghost use Rattle.store.specs.Store.{roomOf};
 ghost use Rattle.rows.specs.World.{placeOf};
 ghost use Rattle.rows.specs.Named.{There};
+use keys::Key;
 use sets::Layout;
 use store::Placed;
 use tables::Catalogue;
@@ -46,10 +48,10 @@ pub enum Answer {
     Refused(usize),
 }
 
-// All that a call gives: the answer, the key of a set (else 0), its trials, row tests and looks, and the record moved on.
+// All that a call gives: the answer, the key of a set (else that of no row), its trials, row tests and looks, and the record moved on.
 pub struct StepAnswer {
     pub answer: Answer,
-    pub key: u64,
+    pub key: Key,
     pub trials: usize,
     pub tests: usize,
     pub looks: usize,
@@ -59,7 +61,7 @@ pub struct StepAnswer {
 // The same of a stream of the sets that hold one row, which stays the one that its record names.
 pub struct HoldingStepAnswer {
     pub answer: Answer,
-    pub key: u64,
+    pub key: Key,
     pub trials: usize,
     pub tests: usize,
     pub looks: usize,
@@ -106,19 +108,21 @@ fn unopened(refusal: usize) -> OpenAnswer
 fn file_first(
     cat: Catalogue,
     cells: &[u64],
-    keys: &mut [u64],
+    low: &mut [u64],
+    high: &mut [u64],
     left: &mut [u16],
     right: &mut [u16],
     first: Row,
 ) -> OpenAnswer
-    requires { ⌜ Lawful cat (length (now cells)) × There cat (first .table) (first .row) × (0 < roomOf (length (now keys)) (length (now left)) (length (now right))) ⌝ }
-    ensures { λ r. ⌜ Begins cat (now (cells .entry)) (placeOf first) (now (keys .entry)) (now (left .entry)) (now (right .entry)) r (now (keys .exit)) (now (left .exit)) (now (right .exit)) ⌝ }
+    requires { ⌜ Lawful cat (length (now cells)) × There cat (first .table) (first .row) × (0 < roomOf (length (now low)) (length (now high)) (length (now left)) (length (now right))) ⌝ }
+    ensures { λ r. ⌜ Begins cat (now (cells .entry)) (placeOf first) (now (low .entry)) (now (high .entry)) (now (left .entry)) (now (right .entry)) r (now (low .exit)) (now (high .exit)) (now (left .exit)) (now (right .exit)) ⌝ }
 {
     let total = tables::total_rows(cat);
-    let alone = keys::with_row(0, first.table, first.row as u64);
+    let none = keys::none();
+    let alone = keys::with_row(none, first.table, first.row as u64);
     let layout = sets::laid_out(cat, cells, 1);
     let g = sets::extend(cat, cells, layout, alone, 0);
-    store::file_record(keys, left, right, 0, g.key);
+    store::file_record(low, high, left, right, 0, g.key);
     OpenAnswer {
         refusal: 0,
         stream: StreamRecord {
@@ -135,11 +139,12 @@ fn file_first(
 pub fn open(
     cat: Catalogue,
     cells: &[u64],
-    keys: &mut [u64],
+    low: &mut [u64],
+    high: &mut [u64],
     left: &mut [u16],
     right: &mut [u16],
 ) -> OpenAnswer
-    ensures { λ r. ⌜ Opens cat (now (cells .entry)) (now (keys .entry)) (now (left .entry)) (now (right .entry)) r (now (keys .exit)) (now (left .exit)) (now (right .exit)) ⌝ }
+    ensures { λ r. ⌜ Opens cat (now (cells .entry)) (now (low .entry)) (now (high .entry)) (now (left .entry)) (now (right .entry)) r (now (low .exit)) (now (high .exit)) (now (left .exit)) (now (right .exit)) ⌝ }
 {
     let f = tables::fault(cat, cells.len());
     if f != 0 {
@@ -149,12 +154,12 @@ pub fn open(
     if total == 0 {
         return unopened(0);
     }
-    let room = store::room(keys, left, right);
+    let room = store::room(low, high, left, right);
     if room == 0 {
         return unopened(12);
     }
     let first = tables::row_at(cat, 0);
-    file_first(cat, cells, keys, left, right, first)
+    file_first(cat, cells, low, high, left, right, first)
 }
 
 // Whether there is no such table or row (19 at open, 13 in a record).
@@ -204,13 +209,14 @@ fn unopened_holding(refusal: usize) -> HoldingOpenAnswer
 pub fn open_holding(
     cat: Catalogue,
     cells: &[u64],
-    keys: &mut [u64],
+    low: &mut [u64],
+    high: &mut [u64],
     left: &mut [u16],
     right: &mut [u16],
     table: usize,
     row: usize,
 ) -> HoldingOpenAnswer
-    ensures { λ r. ⌜ OpensHolding cat (now (cells .entry)) (now (keys .entry)) (now (left .entry)) (now (right .entry)) table row r (now (keys .exit)) (now (left .exit)) (now (right .exit)) ⌝ }
+    ensures { λ r. ⌜ OpensHolding cat (now (cells .entry)) (now (low .entry)) (now (high .entry)) (now (left .entry)) (now (right .entry)) table row r (now (low .exit)) (now (high .exit)) (now (left .exit)) (now (right .exit)) ⌝ }
 {
     let f = tables::fault(cat, cells.len());
     if f != 0 {
@@ -219,18 +225,18 @@ pub fn open_holding(
     if missing(cat, Scope::With(table, row)) {
         return unopened_holding(19);
     }
-    let room = store::room(keys, left, right);
+    let room = store::room(low, high, left, right);
     if room == 0 {
         return unopened_holding(12);
     }
-    let opened = file_first(cat, cells, keys, left, right, Row { table, row });
+    let opened = file_first(cat, cells, low, high, left, right, Row { table, row });
     held(opened, table, row)
 }
 
 // Whether a set, by its key, is asked for.
-fn wants(scope: Scope, key: u64) -> bool
+fn wants(scope: Scope, key: Key) -> bool
     requires { ⌜ Reached (askedOf scope) ⌝ }
-    ensures { λ b. ⌜ b ≡ keyWanted (askedOf scope) key ⌝ }
+    ensures { λ b. ⌜ b ≡ keyWanted (askedOf scope) (numberOf key) ⌝ }
 {
     match scope {
         Scope::Every => true,
@@ -245,12 +251,19 @@ fn wants(scope: Scope, key: u64) -> bool
 
 // Whether the record does not fit the tables and the store (13).
 // Behind this test every place that the record names is there.
-fn record_unfit(cat: Catalogue, keys: &[u64], left: &[u16], right: &[u16], s: StreamRecord) -> bool
+fn record_unfit(
+    cat: Catalogue,
+    low: &[u64],
+    high: &[u64],
+    left: &[u16],
+    right: &[u16],
+    s: StreamRecord,
+) -> bool
     requires { ⌜ Lawful cat mostCells ⌝ }
-    ensures { λ r. ⌜ r ≡ unfit cat (stateOf s (now (keys .entry)) (now (left .entry)) (now (right .entry))) ⌝ }
+    ensures { λ r. ⌜ r ≡ unfit cat (stateOf s (now (low .entry)) (now (high .entry)) (now (left .entry)) (now (right .entry))) ⌝ }
 {
     let total = tables::total_rows(cat);
-    let room = store::room(keys, left, right);
+    let room = store::room(low, high, left, right);
     if room < s.found {
         return true;
     }
@@ -282,14 +295,15 @@ fn record_unfit(cat: Catalogue, keys: &[u64], left: &[u16], right: &[u16], s: St
 fn fault(
     cat: Catalogue,
     cells: &[u64],
-    keys: &[u64],
+    low: &[u64],
+    high: &[u64],
     left: &[u16],
     right: &[u16],
     s: StreamRecord,
     scope: Scope,
     padded: &[u64],
 ) -> usize
-    ensures { λ r. ⌜ r ≡ callFault cat (length (now (cells .entry))) (stateWith (askedOf scope) s (now (keys .entry)) (now (left .entry)) (now (right .entry))) (now (padded .entry)) ⌝ }
+    ensures { λ r. ⌜ r ≡ callFault cat (length (now (cells .entry))) (stateWith (askedOf scope) s (now (low .entry)) (now (high .entry)) (now (left .entry)) (now (right .entry))) (now (padded .entry)) ⌝ }
 {
     let f = tables::fault(cat, cells.len());
     if f != 0 {
@@ -298,7 +312,7 @@ fn fault(
     if missing(cat, scope) {
         return 13;
     }
-    if record_unfit(cat, keys, left, right, s) {
+    if record_unfit(cat, low, high, left, right, s) {
         return 13;
     }
     let m = cat.m;
@@ -314,17 +328,18 @@ fn trial(
     cat: Catalogue,
     cells: &[u64],
     layout: Layout,
-    keys: &mut [u64],
+    low: &mut [u64],
+    high: &mut [u64],
     left: &mut [u16],
     right: &mut [u16],
     s: StreamRecord,
     scope: Scope,
 ) -> Tried
-    requires { ⌜ Lawful cat (length (now cells)) × LaidOut cat (now cells) layout × Fit cat (stateWith (askedOf scope) s (now keys) (now left) (now right)) × (s .«next_row» < total cat) ⌝ }
-    ensures { λ r. ⌜ Tries cat (now (cells .entry)) (askedOf scope) s (now (keys .entry)) (now (left .entry)) (now (right .entry)) r (now (keys .exit)) (now (left .exit)) (now (right .exit)) ⌝ }
+    requires { ⌜ Lawful cat (length (now cells)) × LaidOut cat (now cells) layout × Fit cat (stateWith (askedOf scope) s (now low) (now high) (now left) (now right)) × (s .«next_row» < total cat) ⌝ }
+    ensures { λ r. ⌜ Tries cat (now (cells .entry)) (askedOf scope) s (now (low .entry)) (now (high .entry)) (now (left .entry)) (now (right .entry)) r (now (low .exit)) (now (high .exit)) (now (left .exit)) (now (right .exit)) ⌝ }
 {
     let last = s.taken - 1;
-    let key = keys[last];
+    let key = store::key_at(low, high, last);
     if !rows::key_named(cat, key) {
         return Tried::Damaged;
     }
@@ -335,7 +350,7 @@ fn trial(
         return Tried::Done(found, g.tests, 0);
     }
     let deepest = keys::key_bits(cat.n);
-    match store::offer(keys, left, right, found, g.key, deepest) {
+    match store::offer(low, high, left, right, found, g.key, deepest) {
         Placed::Known { looks } => Tried::Done(found, g.tests, looks),
         Placed::Added { looks } => Tried::Done(found + 1, g.tests, looks),
         Placed::Full => Tried::Full,
@@ -351,11 +366,11 @@ fn told(
     tests: usize,
     looks: usize,
 ) -> StepAnswer
-    ensures { λ r. ⌜ r ≡ record { answer = answer; key = 0; trials = trials; tests = tests; looks = looks; stream = stream } ⌝ }
+    ensures { λ r. ⌜ r ≡ record { answer = answer; key = record { low = 0; high = 0 }; trials = trials; tests = tests; looks = looks; stream = stream } ⌝ }
 {
     StepAnswer {
         answer,
-        key: 0,
+        key: Key { low: 0, high: 0 },
         trials,
         tests,
         looks,
@@ -367,21 +382,22 @@ fn told(
 fn hand_out(
     cat: Catalogue,
     cells: &[u64],
-    keys: &[u64],
+    low: &[u64],
+    high: &[u64],
     s: StreamRecord,
     trials: usize,
     tests: usize,
     looks: usize,
     padded: &mut [u64],
 ) -> StepAnswer
-    requires { ⌜ Lawful cat (length (now cells)) × (s .«next_row» ≡ total cat) × (s .taken ≤ s .found) × (s .found ≤ length (now keys)) × (cat .m ≤ length (now padded)) ⌝ }
-    ensures { λ r. ⌜ Ends cat (now (cells .entry)) s trials tests looks (now (keys .entry)) (now (padded .entry)) r (now (padded .exit)) ⌝ }
+    requires { ⌜ Lawful cat (length (now cells)) × (s .«next_row» ≡ total cat) × (s .taken ≤ s .found) × (s .found ≤ length (now low)) × (s .found ≤ length (now high)) × (cat .m ≤ length (now padded)) ⌝ }
+    ensures { λ r. ⌜ Ends cat (now (cells .entry)) s trials tests looks (now (low .entry)) (now (high .entry)) (now (padded .entry)) r (now (padded .exit)) ⌝ }
 {
     let taken = s.taken;
     if taken == s.found {
         return told(Answer::Finished, s, trials, tests, looks);
     }
-    let key = keys[taken];
+    let key = store::key_at(low, high, taken);
     if !rows::key_named(cat, key) {
         return told(Answer::Refused(14), s, trials, tests, looks);
     }
@@ -405,7 +421,8 @@ fn hand_out(
 fn work(
     cat: Catalogue,
     cells: &[u64],
-    keys: &mut [u64],
+    low: &mut [u64],
+    high: &mut [u64],
     left: &mut [u16],
     right: &mut [u16],
     s: StreamRecord,
@@ -413,8 +430,8 @@ fn work(
     budget: usize,
     padded: &mut [u64],
 ) -> StepAnswer
-    requires { ⌜ Lawful cat (length (now cells)) × Fit cat (stateWith (askedOf scope) s (now keys) (now left) (now right)) × (cat .m ≤ length (now padded)) ⌝ }
-    ensures { λ r. ⌜ calledWith (askedOf scope) r (now (keys .exit)) (now (left .exit)) (now (right .exit)) (now (padded .exit)) ≡ work cat (now (cells .entry)) budget (stateWith (askedOf scope) s (now (keys .entry)) (now (left .entry)) (now (right .entry))) (now (padded .entry)) ⌝ }
+    requires { ⌜ Lawful cat (length (now cells)) × Fit cat (stateWith (askedOf scope) s (now low) (now high) (now left) (now right)) × (cat .m ≤ length (now padded)) ⌝ }
+    ensures { λ r. ⌜ calledWith (askedOf scope) r (now (low .exit)) (now (high .exit)) (now (left .exit)) (now (right .exit)) (now (padded .exit)) ≡ work cat (now (cells .entry)) budget (stateWith (askedOf scope) s (now (low .entry)) (now (high .entry)) (now (left .entry)) (now (right .entry))) (now (padded .entry)) ⌝ }
 {
     let layout = sets::laid_out(cat, cells, budget);
     let total = tables::total_rows(cat);
@@ -434,7 +451,7 @@ fn work(
         if spare == 0 {
             return told(Answer::Working, q, trials, tests, looks);
         }
-        match trial(cat, cells, layout, keys, left, right, q, scope) {
+        match trial(cat, cells, layout, low, high, left, right, q, scope) {
             Tried::Done(f, t, l) => {
                 found = f;
                 next_row = next_row + 1;
@@ -456,7 +473,7 @@ fn work(
         taken,
         next_row,
     };
-    hand_out(cat, cells, keys, q, trials, tests, looks, padded)
+    hand_out(cat, cells, low, high, q, trials, tests, looks, padded)
 }
 
 // One call of a stream, whatever it is asked for.
@@ -464,7 +481,8 @@ fn work(
 fn call(
     cat: Catalogue,
     cells: &[u64],
-    keys: &mut [u64],
+    low: &mut [u64],
+    high: &mut [u64],
     left: &mut [u16],
     right: &mut [u16],
     stream: StreamRecord,
@@ -472,32 +490,45 @@ fn call(
     budget: usize,
     padded: &mut [u64],
 ) -> StepAnswer
-    ensures { λ r. ⌜ calledWith (askedOf scope) r (now (keys .exit)) (now (left .exit)) (now (right .exit)) (now (padded .exit)) ≡ call cat (now (cells .entry)) budget (stateWith (askedOf scope) stream (now (keys .entry)) (now (left .entry)) (now (right .entry))) (now (padded .entry)) ⌝ }
+    ensures { λ r. ⌜ calledWith (askedOf scope) r (now (low .exit)) (now (high .exit)) (now (left .exit)) (now (right .exit)) (now (padded .exit)) ≡ call cat (now (cells .entry)) budget (stateWith (askedOf scope) stream (now (low .entry)) (now (high .entry)) (now (left .entry)) (now (right .entry))) (now (padded .entry)) ⌝ }
 {
-    let f = fault(cat, cells, keys, left, right, stream, scope, padded);
+    let f = fault(cat, cells, low, high, left, right, stream, scope, padded);
     if f != 0 {
         return told(Answer::Refused(f), stream, 0, 0, 0);
     }
-    work(cat, cells, keys, left, right, stream, scope, budget, padded)
+    work(
+        cat,
+        cells,
+        low,
+        high,
+        left,
+        right,
+        stream,
+        scope,
+        budget,
+        padded,
+    )
 }
 
 // One call of an open stream with a budget of trials, the record by value.
 pub fn step(
     cat: Catalogue,
     cells: &[u64],
-    keys: &mut [u64],
+    low: &mut [u64],
+    high: &mut [u64],
     left: &mut [u16],
     right: &mut [u16],
     stream: StreamRecord,
     budget: usize,
     padded: &mut [u64],
 ) -> StepAnswer
-    ensures { λ r. ⌜ Steps cat (now (cells .entry)) (now (keys .entry)) (now (left .entry)) (now (right .entry)) stream budget (now (padded .entry)) r (now (keys .exit)) (now (left .exit)) (now (right .exit)) (now (padded .exit)) ⌝ }
+    ensures { λ r. ⌜ Steps cat (now (cells .entry)) (now (low .entry)) (now (high .entry)) (now (left .entry)) (now (right .entry)) stream budget (now (padded .entry)) r (now (low .exit)) (now (high .exit)) (now (left .exit)) (now (right .exit)) (now (padded .exit)) ⌝ }
 {
     call(
         cat,
         cells,
-        keys,
+        low,
+        high,
         left,
         right,
         stream,
@@ -512,25 +543,38 @@ pub fn step(
 pub fn step_holding(
     cat: Catalogue,
     cells: &[u64],
-    keys: &mut [u64],
+    low: &mut [u64],
+    high: &mut [u64],
     left: &mut [u16],
     right: &mut [u16],
     stream: HoldingRecord,
     budget: usize,
     padded: &mut [u64],
 ) -> HoldingStepAnswer
-    ensures { λ r. ⌜ StepsHolding cat (now (cells .entry)) (now (keys .entry)) (now (left .entry)) (now (right .entry)) stream budget (now (padded .entry)) r (now (keys .exit)) (now (left .exit)) (now (right .exit)) (now (padded .exit)) ⌝ }
+    ensures { λ r. ⌜ StepsHolding cat (now (cells .entry)) (now (low .entry)) (now (high .entry)) (now (left .entry)) (now (right .entry)) stream budget (now (padded .entry)) r (now (low .exit)) (now (high .exit)) (now (left .exit)) (now (right .exit)) (now (padded .exit)) ⌝ }
 {
     let table = stream.table;
     let row = stream.row;
     let before = stream.stream;
     let scope = Scope::With(table, row);
-    let r = call(cat, cells, keys, left, right, before, scope, budget, padded);
+    let r = call(
+        cat,
+        cells,
+        low,
+        high,
+        left,
+        right,
+        before,
+        scope,
+        budget,
+        padded,
+    );
     let answer = r.answer;
+    let key = r.key;
     let after = r.stream;
     HoldingStepAnswer {
         answer,
-        key: r.key,
+        key,
         trials: r.trials,
         tests: r.tests,
         looks: r.looks,

@@ -1,14 +1,15 @@
 -- Laws of a catalogue's sums: one table more, later tables lie behind earlier ones, and every row's cells lie inside. Assumes nothing.
 use Prim.Native.Nat.{ℕ, zero, suc, _+_, _-_, _*_, _/_, _%_, _^_, _≤_, _<_}
-use native.Mathlib.Nat.{mod-lt, mul-le-mul, mul-le-mul-right, suc-mul, add-zero}
+use native.Mathlib.Nat.{mod-lt, mul-le-mul, mul-le-mul-left, mul-le-mul-right, suc-mul, add-zero}
 use native.Mathlib.Omega.{arith}
 use native.Mathlib.Numerals.{add-one, sub-one}
-use mathlib.Core.Path.{_≡_, refl, _∙_}
+use native.Mathlib.Decide.{ℕ-discrete}
+use mathlib.Core.Path.{_≡_, refl, sym, subst, _∙_}
 use lib.Count.{ones, ones-le, ones-cat, ones-step}
-use lib.Pow.{pow-pos, shl-exact, split}
+use lib.Pow.{pow-pos, shr-lt, shl-exact, split}
 use borrow.Author.Tests.{lt-ltb, le-ltb}
 use Rattle.tables.specs.declared.Catalogue.{Catalogue}
-use Rattle.tables.specs.Sizes.{mostRows, mostCells}
+use Rattle.tables.specs.Sizes.{mostRows, mostCells, mostTotal}
 use Rattle.tables.specs.Catalogues.{schemeOf, countOf, firstCell, rowStart, rowsBefore, rowFrom}
 use Rattle.tables.specs.Checks.{Lawful}
 
@@ -18,8 +19,8 @@ use Rattle.tables.specs.Checks.{Lawful}
 pub one-shl : (a : ℕ) → a < 64 → 1 * 2 ^ a % 2 ^ 64 ≡ 2 ^ a
 one-shl a h = shl-exact 1 a 64 (omega arith) (omega arith) ∙ omega arith
 
--- a table of at most 255 rows has at most 16,320 cells
-pub cells-few : (rows scheme : ℕ) → rows ≤ mostRows → scheme < 2 ^ 64 → rows * ones scheme ≤ 16320
+-- a scheme is a word, so a row has at most 64 cells
+pub cells-few : (rows scheme : ℕ) → rows ≤ mostRows → scheme < 2 ^ 64 → rows * ones scheme ≤ mostRows * 64
 cells-few rows scheme h l = mul-le-mul h (ones-le 64 scheme l)
 
 -- where the scheme has no attribute below a, none is counted
@@ -32,6 +33,15 @@ pub rank-lt : (scheme a : ℕ) → scheme / 2 ^ a % 2 ≡ 1 → ones (scheme % 2
 rank-lt s a h =
     let e : ones (s / 2 ^ a * 2 ^ a + s % 2 ^ a) ≡ ones (s / 2 ^ a) + ones (s % 2 ^ a) = ones-cat a (s / 2 ^ a) (s % 2 ^ a) (mod-lt s (pow-pos a)) in
     omega (arith, rw (split s a) at e, ones-step (s / 2 ^ a))
+
+-- a scheme of k attributes that is not 0 has one, so that its rows have a cell
+pub some-cell : (k scheme : ℕ) → scheme < 2 ^ k → 0 < scheme → 0 < ones scheme
+some-cell zero s h p = absurd (omega arith)
+some-cell (suc k) s h p = go (ℕ-discrete (s % 2) 0) (some-cell k (s / 2) (shr-lt k 1 (subst (λ (x : ℕ). s < 2 ^ x) (sym (add-one k)) h)))
+  where
+    go : Dec (s % 2 ≡ 0) → (0 < s / 2 → 0 < ones (s / 2)) → 0 < ones s
+    go (yes e) ih = omega (arith, ones-step s, ih (omega arith))
+    go (no f) ih = omega (arith, ones-step s)
 
 -- ---- sums over the tables
 
@@ -87,13 +97,16 @@ module _ (cat : Catalogue) (lent : ℕ) (L : Lawful cat lent) where
   unfolding rowStart
   row-inside t r h l k = omega (arith, table-ends cat t h, row-ends cat (ones (schemeOf cat t)) r (countOf cat t) l k)
 
-  rows-to : (t : ℕ) → t ≤ cat .n → rowsBefore cat t ≤ mostRows * t
-  unfolding rowsBefore
-  rows-to zero h = omega arith
-  rows-to (suc t) h = omega (arith, rows-to t (omega arith), L .rows t (omega arith))
+  -- every row has a cell, so there are no more rows than cells
+  rows-cells : (t : ℕ) → t ≤ cat .n → rowsBefore cat t ≤ firstCell cat t
+  unfolding rowsBefore firstCell
+  rows-cells zero h = omega arith
+  rows-cells (suc t) h =
+      let one : 1 ≤ ones (schemeOf cat t) = some-cell (cat .m) (schemeOf cat t) (L .scheme t (omega arith)) (L .some-scheme t (omega arith)) in
+      omega (arith, rows-cells t (omega arith), mul-le-mul-left (countOf cat t) one)
 
-  pub rows-few : (t : ℕ) → t ≤ cat .n → rowsBefore cat t ≤ 2040
-  rows-few t h = omega (arith, rows-to t h, L .tables)
+  pub rows-few : (t : ℕ) → t ≤ cat .n → rowsBefore cat t ≤ mostTotal
+  rows-few t h = omega (arith, rows-cells t h, cells-mono cat t (cat .n) h, L .cells)
 
 -- ---- row order
 

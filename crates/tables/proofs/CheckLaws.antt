@@ -81,21 +81,21 @@ wide m x h =
 
 -- ---- 6, 8
 
-pub count-many : (lent used x c : ℕ) → mostRows < c → countFault lent used x c ≡ 6
+pub count-many : (most lent used x c : ℕ) → most < c → countFault most lent used x c ≡ 6
 unfolding countFault
-count-many lent used x c h = rw (lt-ltb mostRows c h)
+count-many most lent used x c h = rw (lt-ltb most c h)
 
-pub count-most : (lent used x c : ℕ) → c ≤ mostRows → mostCells < used + c * ones x → countFault lent used x c ≡ 8
+pub count-most : (most lent used x c : ℕ) → c ≤ most → mostCells < used + c * ones x → countFault most lent used x c ≡ 8
 unfolding countFault
-count-most lent used x c h l = rw (le-ltb mostRows c h, lt-ltb mostCells (used + c * ones x) l)
+count-most most lent used x c h l = rw (le-ltb most c h, lt-ltb mostCells (used + c * ones x) l)
 
-pub count-lent : (lent used x c : ℕ) → c ≤ mostRows → used + c * ones x ≤ mostCells → lent < used + c * ones x → countFault lent used x c ≡ 8
+pub count-lent : (most lent used x c : ℕ) → c ≤ most → used + c * ones x ≤ mostCells → lent < used + c * ones x → countFault most lent used x c ≡ 8
 unfolding countFault
-count-lent lent used x c h l k = rw (le-ltb mostRows c h, le-ltb mostCells (used + c * ones x) l, lt-ltb lent (used + c * ones x) k)
+count-lent most lent used x c h l k = rw (le-ltb most c h, le-ltb mostCells (used + c * ones x) l, lt-ltb lent (used + c * ones x) k)
 
-pub count-good : (lent used x c : ℕ) → c ≤ mostRows → used + c * ones x ≤ mostCells → used + c * ones x ≤ lent → countFault lent used x c ≡ 0
+pub count-good : (most lent used x c : ℕ) → c ≤ most → used + c * ones x ≤ mostCells → used + c * ones x ≤ lent → countFault most lent used x c ≡ 0
 unfolding countFault
-count-good lent used x c h l k = rw (le-ltb mostRows c h, le-ltb mostCells (used + c * ones x) l, le-ltb lent (used + c * ones x) k)
+count-good most lent used x c h l k = rw (le-ltb most c h, le-ltb mostCells (used + c * ones x) l, le-ltb lent (used + c * ones x) k)
 
 -- ---- a table
 
@@ -103,28 +103,28 @@ pub table-scheme : (m lent used x c : ℕ) → badScheme m x ≡ true → tableF
 unfolding tableFault
 table-scheme m lent used x c e = rw e
 
-pub table-count : (m lent used x c : ℕ) → badScheme m x ≡ false → tableFault m lent used x c ≡ countFault lent used x c
+pub table-count : (m lent used x c : ℕ) → badScheme m x ≡ false → tableFault m lent used x c ≡ countFault mostRows lent used x c
 unfolding tableFault
 table-count m lent used x c e = rw e
 
 -- What a row count that meets neither is known to be.
-pub record Counted (lent used scheme rows : ℕ) : Type 0 where
-  pub few : rows ≤ mostRows
+pub record Counted (limit lent used scheme rows : ℕ) : Type 0 where
+  pub few : rows ≤ limit
   pub most : used + rows * ones scheme ≤ mostCells
   pub room : used + rows * ones scheme ≤ lent
 
-module _ (lent used x c : ℕ) where
-  no-count : {A : Type 0} (k : ℕ) → countFault lent used x c ≡ suc k → countFault lent used x c ≡ 0 → A
+module _ (most lent used x c : ℕ) where
+  no-count : {A : Type 0} (k : ℕ) → countFault most lent used x c ≡ suc k → countFault most lent used x c ≡ 0 → A
   no-count k e d = absurd (omega arith)
 
-  pub fault-counted : countFault lent used x c ≡ 0 → Counted lent used x c
+  pub fault-counted : countFault most lent used x c ≡ 0 → Counted most lent used x c
   fault-counted e =
-      elim (decLt mostRows c) [
-        | yes h ↦ no-count 5 (count-many lent used x c h) e
+      elim (decLt most c) [
+        | yes h ↦ no-count 5 (count-many most lent used x c h) e
         | no h ↦ elim (decLt mostCells (used + c * ones x)) [
-          | yes k ↦ no-count 7 (count-most lent used x c (omega arith) k) e
+          | yes k ↦ no-count 7 (count-most most lent used x c (omega arith) k) e
           | no k ↦ elim (decLt lent (used + c * ones x)) [
-            | yes r ↦ no-count 7 (count-lent lent used x c (omega arith) (omega arith) r) e
+            | yes r ↦ no-count 7 (count-lent most lent used x c (omega arith) (omega arith) r) e
             | no r ↦ record { few = omega arith; most = omega arith; room = omega arith }
           ]
         ]
@@ -141,7 +141,7 @@ pub record Clear (m lent used scheme rows : ℕ) : Type 0 where
 module _ (m lent used x c : ℕ) where
   pub clear-fault : Clear m lent used x c → tableFault m lent used x c ≡ 0
   clear-fault h =
-      table-count m lent used x c (scheme-good m x (λ e. omega (arith, h .some)) (h .low)) ∙ count-good lent used x c (h .few) (h .most) (h .room)
+      table-count m lent used x c (scheme-good m x (λ e. omega (arith, h .some)) (h .low)) ∙ count-good mostRows lent used x c (h .few) (h .most) (h .room)
 
   no-fault : {A : Type 0} → tableFault m lent used x c ≡ 5 → tableFault m lent used x c ≡ 0 → A
   no-fault e d = absurd (omega arith)
@@ -153,7 +153,7 @@ module _ (m lent used x c : ℕ) where
         | yes z ↦ elim (decLt x (2 ^ m)) [
           | no h ↦ no-fault (table-scheme m lent used x c (scheme-high m x (λ q. omega arith) (omega arith))) e
           | yes h ↦
-              let k = fault-counted lent used x c (sym (table-count m lent used x c (scheme-good m x (λ q. omega arith) h)) ∙ e) in
+              let k = fault-counted mostRows lent used x c (sym (table-count m lent used x c (scheme-good m x (λ q. omega arith) h)) ∙ e) in
               record { some = z; low = h; few = k .few; most = k .most; room = k .room }
         ]
       ]

@@ -1,4 +1,5 @@
 pub mod CatalogueLaws
 pub mod RowLaws
 pub mod CheckLaws
+pub mod VersionLaws
 pub mod StoredLaws

@@ -32,16 +32,17 @@ sizeFault m n =
 unfoldable pub badScheme : ℕ → ℕ → Bool
 badScheme m scheme = eqb scheme 0 || leb (2 ^ m) scheme
 
--- "6: more than 255 rows"; "8: cells so far, this table included, pass 8,192 or the lent cell slice". `used` cells lie before the table.
-unfoldable pub countFault : ℕ → ℕ → ℕ → ℕ → ℕ
-countFault lent used scheme rows =
-    cond (ltb mostRows rows) 6
+-- "6: more than 255 rows", or more than `most` (#110); "8: cells so far, this table included, pass 8,192 or the lent cell slice". `used` cells lie
+-- before the table.
+unfoldable pub countFault : ℕ → ℕ → ℕ → ℕ → ℕ → ℕ
+countFault most lent used scheme rows =
+    cond (ltb most rows) 6
     (cond (ltb mostCells (used + rows * ones scheme) || ltb lent (used + rows * ones scheme)) 8
     0)
 
--- A table: 5, then 6, then 8.
+-- A table of a catalogue: 5, then 6, then 8.
 unfoldable pub tableFault : ℕ → ℕ → ℕ → ℕ → ℕ → ℕ
-tableFault m lent used scheme rows = cond (badScheme m scheme) 5 (countFault lent used scheme rows)
+tableFault m lent used scheme rows = cond (badScheme m scheme) 5 (countFault mostRows lent used scheme rows)
 
 -- k tables from table t on, table by table.
 unfoldable pub tablesFault : ℕ → Catalogue → ℕ → ℕ → ℕ

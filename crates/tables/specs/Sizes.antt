@@ -1,4 +1,4 @@
--- The sizes of document 01 and the image's version, each under its name. Assumes nothing.
+-- The sizes of document 01 and the image's versions, each under its name. Assumes nothing.
 use Prim.Native.Nat.{ℕ}
 
 -- "Attributes m: 1 to 63"
@@ -9,14 +9,24 @@ mostAttributes = 63
 abbrev pub mostTables : ℕ
 mostTables = 8
 
--- "Rows in a table: 0 to 255"
+-- Request #110: "6 means above 255 in version 1, above 4,095 in version 2 and in a catalogue".
 abbrev pub mostRows : ℕ
-mostRows = 255
+mostRows = 4095
+
+abbrev pub mostRowsOne : ℕ
+mostRowsOne = 255
 
 -- "Cells of all tables together: at most 8,192"
 abbrev pub mostCells : ℕ
 mostCells = 8192
 
--- "version (1)": the first number of an image.
-abbrev pub version : ℕ
-version = 1
+-- "The cell limit stays, so N is now at most 8,192" (#110): a row has a cell.
+abbrev pub mostTotal : ℕ
+mostTotal = mostCells
+
+-- The first number of an image. "Images with a table above 255 rows carry version 2, all others version 1" (#110).
+abbrev pub versionOne : ℕ
+versionOne = 1
+
+abbrev pub versionTwo : ℕ
+versionTwo = 2

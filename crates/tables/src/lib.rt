@@ -5,9 +5,16 @@ ghost use Prim.Native.Nat.{_%_, _^_, _≤_, _<_};
 ghost use lib.Bits.{bitAnd};
 ghost use lib.Count.{ones};
 ghost use lib.Dec.{eqb};
-ghost use Rattle.tables.specs.Sizes.{mostTables, mostCells};
+ghost use Rattle.tables.specs.Sizes.{mostTables, mostRows, mostCells};
 ghost use Rattle.tables.specs.Catalogues.{countOf, schemeOf, firstCell, touch, touchingOf, filled, given, noTables, rowStart, total, rowAt};
 ghost use Rattle.tables.specs.Checks.{sizeFault, badScheme, countFault, tableFault, shapeFault, misstored, storedFault, catalogueFault, Lawful, Makes};
+ghost use Rattle.tables.specs.Versions.{versionOf, mostRowsIn, needless};
+
+// The most rows of a table in version 1.
+const MOST_ROWS_ONE: u64 = 255;
+
+// The most rows of a table in version 2 and in a catalogue.
+const MOST_ROWS: u64 = 4095;
 
 // "One record with m, n, and eight schemes and eight row counts", and "eight first-cell places and eight masks of touching tables": bit u of table t's
 // mask says that t and u touch. Entries from n on are ignored.
@@ -90,13 +97,13 @@ pub fn scheme_bad(m: usize, scheme: u64) -> bool
     true
 }
 
-// 6 or 8 for a row count, else 0; `used` cells lie before the table.
+// 6 or 8 for a row count, else 0; a table may have `most` rows, and `used` cells lie before it.
 // The count is looked at first, so that the sum of the cells stays small.
-pub fn count_fault(lent: usize, used: usize, scheme: u64, rows: u64) -> usize
-    requires { ⌜ used ≤ mostCells ⌝ }
-    ensures { λ r. ⌜ r ≡ countFault lent used scheme rows ⌝ }
+pub fn count_fault(most: u64, lent: usize, used: usize, scheme: u64, rows: u64) -> usize
+    requires { ⌜ (most ≤ mostRows) × (used ≤ mostCells) ⌝ }
+    ensures { λ r. ⌜ r ≡ countFault most lent used scheme rows ⌝ }
 {
-    if 255 < rows {
+    if most < rows {
         return 6;
     }
     let cells = used + (rows as usize) * width(scheme);
@@ -118,7 +125,7 @@ pub fn table_fault(m: usize, lent: usize, used: usize, scheme: u64, rows: u64) -
     if scheme_bad(m, scheme) {
         return 5;
     }
-    count_fault(lent, used, scheme, rows)
+    count_fault(MOST_ROWS, lent, used, scheme, rows)
 }
 
 // The first of 4 and, table by table, 5, 6 and 8, or 0; `lent` cells are lent.
@@ -279,6 +286,45 @@ pub fn make_catalogue(m: usize, n: usize, schemes: [u64; 8], rows: [u16; 8]) -> 
         refusal: 0,
         catalogue,
     }
+}
+
+// The version that the image of these tables carries: 2 where a table passes 255 rows, else 1.
+// The writer puts it first.
+pub fn version_of(cat: Catalogue) -> u64
+    requires { ⌜ cat .n ≤ mostTables ⌝ }
+    ensures { λ r. ⌜ r ≡ versionOf cat ⌝ }
+{
+    let n = cat.n;
+    let mut t: usize = 0;
+    while t < n {
+        if MOST_ROWS_ONE < cat.rows[t] as u64 {
+            return 2;
+        }
+        t = t + 1;
+    }
+    1
+}
+
+// The most rows that a table may have in an image of this version.
+// The loader judges each row count by it.
+pub fn most_rows_in(version: u64) -> u64
+    ensures { λ r. ⌜ r ≡ mostRowsIn version ⌝ }
+{
+    if version == 1 {
+        return MOST_ROWS_ONE;
+    }
+    MOST_ROWS
+}
+
+// Whether an image of these tables carries version 2 without need (20): no table passes 255 rows.
+pub fn needless(version: u64, cat: Catalogue) -> bool
+    requires { ⌜ cat .n ≤ mostTables ⌝ }
+    ensures { λ r. ⌜ r ≡ needless version cat ⌝ }
+{
+    if version != 2 {
+        return false;
+    }
+    version_of(cat) == 1
 }
 
 // N: how many rows all tables have together.

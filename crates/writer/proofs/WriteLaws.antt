@@ -5,23 +5,24 @@ use native.Mathlib.Decide.{ℕ-discrete, decLt}
 use native.Mathlib.Omega.{arith}
 use native.Mathlib.Numerals.{sub-one}
 use mathlib.Core.Path.{_≡_, refl, sym, ap, _∙_}
-use mathlib.Core.Logic.{⊎-elim}
-use mathlib.Core.Bool.{Bool, true, false, _||_}
+use mathlib.Core.Bool.{Bool, true, false, cond, _||_}
 use mathlib.Core.List.{List, [], _∷_, _++_, append-assoc}
 use lib.ListN.{length, take, getD, length-append}
 use lib.Count.{ones}
 use borrow.Author.Tests.{lt-ltb, le-ltb, le-leb, lt-leb}
 use Rattle.laws.specs.Lists.{part}
 use Rattle.laws.proofs.ListLaws.{part-none, part-more, part-append}
-use Rattle.laws.proofs.TestLaws.{which, clash}
+use Rattle.laws.proofs.TestLaws.{clash}
 use Rattle.numbers.specs.Numbers.{mostBytes, encodeIn, encode}
 use Rattle.tables.specs.declared.Catalogue.{Catalogue}
-use Rattle.tables.specs.Sizes.{mostTables, mostRows, mostCells, version}
+use Rattle.tables.specs.Sizes.{mostTables, mostRows, mostCells}
 use Rattle.tables.specs.Catalogues.{schemeOf, countOf, firstCell, placeIn}
-use Rattle.tables.specs.Rows.{below}
+use Rattle.tables.specs.Rows.{below, allNull}
+use Rattle.tables.specs.Versions.{versionOf, blank}
+use Rattle.tables.proofs.RowLaws.{null-none, null-more, null-value}
 use Rattle.tables.proofs.CatalogueLaws.{cells-next, table-ends}
 use Rattle.writer.specs.declared.Written.the-variants.{Length, Refused}
-use Rattle.writer.specs.Write.{encodes, cellsOf, tablesImage, imageOf, tooHigh, rowsFault, writeFault, lengthFault, written}
+use Rattle.writer.specs.Write.{encodes, cellsOf, tablesImage, headBytes, imageOf, tooHigh, rowsFault, writeFault, lengthFault, written}
 use Rattle.writer.proofs.AcceptLaws.{fault-accepted}
 
 -- ---- 10
@@ -36,6 +37,15 @@ high-append (x ∷ xs) ys p q =
     ]
 
 module _ (cells : List ℕ) where
+  pub null-end : (a k : ℕ) → k ≤ 0 → allNull (part a k cells) ≡ true
+  null-end a k z = rw (part-none a k cells z) null-none
+
+  pub null-next : (a k : ℕ) → 0 < k → a < length cells → getD cells a 0 ≡ 0 → allNull (part a k cells) ≡ allNull (part (a + 1) (k - 1) cells)
+  null-next a k z h e = rw (part-more a k cells z h) (null-more (getD cells a 0) (part (a + 1) (k - 1) cells) e)
+
+  pub null-here : (a k : ℕ) → 0 < k → a < length cells → (getD cells a 0 ≡ 0 → ⊥) → allNull (part a k cells) ≡ false
+  null-here a k z h n = rw (part-more a k cells z h) (null-value (getD cells a 0) (part (a + 1) (k - 1) cells) n)
+
   pub high-none : (a k : ℕ) → k ≤ 0 → tooHigh (part a k cells) ≡ false
   unfolding tooHigh
   high-none a k z = rw (part-none a k cells z)
@@ -56,7 +66,7 @@ module _ (cells : List ℕ) where
         | no l ↦ absurd (clash (high-here a k z h (omega arith)) e)
       ]
 
--- ---- 10 and 7, row by row
+-- ---- 10, 21 and 7, row by row
 
 pub or-none : {a : Bool} (b : Bool) → a ≡ false → (a || b) ≡ b
 or-none b p = rw p
@@ -65,42 +75,64 @@ pub rows-next : (w k : ℕ) → 0 < k → k * w ≡ (k - 1) * w + w
 rows-next w zero z = absurd (omega arith)
 rows-next w (suc k) z = rw (sub-one (suc k)) (suc-mul k w)
 
-module _ (cells : List ℕ) (w : ℕ) where
-  pub rows-none : (k : ℕ) (first : Bool) (before at : ℕ) → k ≤ 0 → rowsFault k w cells first before at ≡ 0
+-- Where none of the three is met.
+all-clear : (high empty rises : Bool) (rest : ℕ) → cond high 10 (cond empty 21 (cond rises rest 7)) ≡ 0
+    → (high ≡ false) × (empty ≡ false) × (rises ≡ true) × (rest ≡ 0)
+all-clear true empty rises rest e = absurd (omega arith)
+all-clear false true rises rest e = absurd (omega arith)
+all-clear false false true rest e = (refl, refl, refl, e)
+all-clear false false false rest e = absurd (omega arith)
+
+module _ (cells : List ℕ) (w v : ℕ) where
+  -- Where the writer refuses no row, the next row is low enough, not blank, and rises, and the rows behind it are not refused.
+  pub row-clear : (k : ℕ) (first : Bool) (before at : ℕ) → rowsFault (suc k) w cells v first before at ≡ 0
+      → (tooHigh (part at w cells) ≡ false) × (blank v (part at w cells) ≡ false) × ((first || below (part before w cells) (part at w cells)) ≡ true)
+      × (rowsFault k w cells v false at (at + w) ≡ 0)
+  unfolding rowsFault
+  row-clear k first before at e =
+      all-clear (tooHigh (part at w cells)) (blank v (part at w cells))
+      (first || below (part before w cells) (part at w cells)) (rowsFault k w cells v false at (at + w)) e
+
+  pub rows-none : (k : ℕ) (first : Bool) (before at : ℕ) → k ≤ 0 → rowsFault k w cells v first before at ≡ 0
   unfolding rowsFault
   rows-none zero first before at z = refl
   rows-none (suc k) first before at z = absurd (omega arith)
 
-  pub rows-high : (k : ℕ) (first : Bool) (before at : ℕ) → 0 < k → tooHigh (part at w cells) ≡ true → rowsFault k w cells first before at ≡ 10
+  pub rows-high : (k : ℕ) (first : Bool) (before at : ℕ) → 0 < k → tooHigh (part at w cells) ≡ true → rowsFault k w cells v first before at ≡ 10
   unfolding rowsFault
   rows-high zero first before at z e = absurd (omega arith)
   rows-high (suc k) first before at z e = rw e
 
-  pub rows-flat : (k : ℕ) (first : Bool) (before at : ℕ) → 0 < k → tooHigh (part at w cells) ≡ false → (first || below (part before w cells) (part at w cells)) ≡ false → rowsFault k w cells first before at ≡ 7
-  unfolding rowsFault
-  rows-flat zero first before at z e d = absurd (omega arith)
-  rows-flat (suc k) first before at z e d = rw (e, d)
+  module _ (k : ℕ) (first : Bool) (before at : ℕ) (z : 0 < k) (e : tooHigh (part at w cells) ≡ false) where
+    step : rowsFault k w cells v first before at
+        ≡ cond (blank v (part at w cells)) 21 (cond (first || below (part before w cells) (part at w cells)) (rowsFault (k - 1) w cells v false at (at + w)) 7)
+    unfolding rowsFault
+    step = by k z
+      where
+        by : (j : ℕ) → 0 < j → rowsFault j w cells v first before at
+            ≡ cond (blank v (part at w cells)) 21
+            (cond (first || below (part before w cells) (part at w cells)) (rowsFault (j - 1) w cells v false at (at + w)) 7)
+        by zero z = absurd (omega arith)
+        by (suc j) z = rw (sub-one (suc j), e) refl
 
-  pub rows-more : (k : ℕ) (first : Bool) (before at : ℕ) → 0 < k → tooHigh (part at w cells) ≡ false → (first || below (part before w cells) (part at w cells)) ≡ true → rowsFault k w cells first before at ≡ rowsFault (k - 1) w cells false at (at + w)
-  unfolding rowsFault
-  rows-more zero first before at z e d = absurd (omega arith)
-  rows-more (suc k) first before at z e d = rw (sub-one (suc k), e, d)
+    pub rows-blank : blank v (part at w cells) ≡ true → rowsFault k w cells v first before at ≡ 21
+    rows-blank h = step ∙ rw h
+
+    pub rows-flat : blank v (part at w cells) ≡ false
+        → (first || below (part before w cells) (part at w cells)) ≡ false → rowsFault k w cells v first before at ≡ 7
+    rows-flat h d = step ∙ rw (h, d)
+
+    pub rows-more : blank v (part at w cells) ≡ false → (first || below (part before w cells) (part at w cells)) ≡ true
+        → rowsFault k w cells v first before at ≡ rowsFault (k - 1) w cells v false at (at + w)
+    rows-more h d = step ∙ rw (h, d)
 
   -- Rows without fault have no code that is too high.
-  pub rows-low : (k : ℕ) (first : Bool) (before at : ℕ) → rowsFault k w cells first before at ≡ 0 → tooHigh (part at (k * w) cells) ≡ false
+  pub rows-low : (k : ℕ) (first : Bool) (before at : ℕ) → rowsFault k w cells v first before at ≡ 0 → tooHigh (part at (k * w) cells) ≡ false
   rows-low zero first before at e = high-none cells at (0 * w) (omega arith)
   rows-low (suc k) first before at e =
+      let g = row-clear k first before at e in
       let wide : suc k * w ≡ w + k * w = omega (arith, suc-mul k w) in
-      ⊎-elim
-      (λ (h : tooHigh (part at w cells) ≡ true). absurd (omega (arith, rows-high (suc k) first before at (omega arith) h)))
-      (λ (h : tooHigh (part at w cells) ≡ false).
-      ⊎-elim
-      (λ (d : (first || below (part before w cells) (part at w cells)) ≡ true).
-      let rest = sym (rows-more (suc k) first before at (omega arith) h d) ∙ e in
-      rw (wide, part-append at w (k * w) cells) (high-append (part at w cells) (part (at + w) (k * w) cells) h (rows-low k false at (at + w) (rw (sub-one (suc k)) at rest))))
-      (λ (d : (first || below (part before w cells) (part at w cells)) ≡ false). absurd (omega (arith, rows-flat (suc k) first before at (omega arith) h d)))
-      (which (first || below (part before w cells) (part at w cells))))
-      (which (tooHigh (part at w cells)))
+      rw (wide, part-append at w (k * w) cells) (high-append (part at w cells) (part (at + w) (k * w) cells) (g .0) (rows-low k false at (at + w) (g .3)))
 
 -- ---- numbers one after the other
 
@@ -147,18 +179,19 @@ tableBytes cat cells t used w = encode (schemeOf cat t) ++ (encode (countOf cat 
 abbrev pub tableLength : Catalogue → List ℕ → ℕ → ℕ → ℕ → ℕ
 tableLength cat cells t used w = length (encode (schemeOf cat t)) + length (encode (countOf cat t)) + length (encodes (part used (countOf cat t * w) cells))
 
--- The bytes before the first table, and how many they are.
-abbrev pub headBytes : Catalogue → List ℕ
-headBytes cat = encode version ++ (encode (cat .m) ++ encode (cat .n))
-
+-- How many bytes lie before the first table.
 abbrev pub headLength : Catalogue → ℕ
-headLength cat = length (encode version) + length (encode (cat .m)) + length (encode (cat .n))
+headLength cat = length (encode (versionOf cat)) + length (encode (cat .m)) + length (encode (cat .n))
 
 length-three : (a b c : List ℕ) → length (a ++ (b ++ c)) ≡ length a + length b + length c
 length-three a b c = simp length-append (omega arith)
 
 pub head-three : (cat : Catalogue) → length (headBytes cat) ≡ headLength cat
-head-three cat = length-three (encode version) (encode (cat .m)) (encode (cat .n))
+head-three cat = length-three (encode (versionOf cat)) (encode (cat .m)) (encode (cat .n))
+
+-- A head is short.
+pub head-few : (cat : Catalogue) → length (headBytes cat) ≤ mostBytes * 3
+head-few cat = omega (arith, head-three cat, encode-few (versionOf cat), encode-few (cat .m), encode-few (cat .n))
 
 module _ (cat : Catalogue) (cells : List ℕ) where
   pub image-none : (k t : ℕ) → k ≤ 0 → tablesImage k cat cells t ≡ []
@@ -178,13 +211,10 @@ module _ (cat : Catalogue) (cells : List ℕ) where
 
   pub image-head : imageOf cat cells ≡ headBytes cat ++ tablesImage (cat .n) cat cells 0
   unfolding imageOf
-  image-head = simp append-assoc
+  image-head = refl
 
-  pub head-length : length (imageOf cat cells) ≡ headLength cat + length (tablesImage (cat .n) cat cells 0)
-  head-length =
-      ap length image-head
-      ∙ length-append (headBytes cat) (tablesImage (cat .n) cat cells 0)
-      ∙ omega (arith, head-three cat)
+  pub head-length : length (imageOf cat cells) ≡ length (headBytes cat) + length (tablesImage (cat .n) cat cells 0)
+  head-length = ap length image-head ∙ length-append (headBytes cat) (tablesImage (cat .n) cat cells 0)
 
   -- A number takes at most nine bytes, a table two numbers beside its cells.
   tables-few : (k t : ℕ) → length (tablesImage k cat cells t) + mostBytes * firstCell cat t ≤ mostBytes * (2 * k + firstCell cat (t + k))
@@ -218,7 +248,7 @@ module _ (cat : Catalogue) (cells : List ℕ) where
         rows = L .rows t h;
         most = omega (arith, ends, L .cells);
         inside = omega (arith, ends, L .room);
-        low = rows-low cells (ones (schemeOf cat t)) (countOf cat t) true 0 (firstCell cat t) (A .rows t h);
+        low = rows-low cells (ones (schemeOf cat t)) (versionOf cat) (countOf cat t) true 0 (firstCell cat t) (A .rows t h);
         bytes = image-more (cat .n - t) (cat .n - (t + 1)) t k;
         size = image-length (cat .n - t) (cat .n - (t + 1)) t k;
         three = table-three t;
@@ -230,7 +260,7 @@ module _ (cat : Catalogue) (cells : List ℕ) where
   image-few e =
       let L = fault-accepted cat cells e .lawful in
       let z : 0 + cat .n ≡ cat .n = omega arith in
-      omega (arith, head-length, encode-few version, encode-few (cat .m), encode-few (cat .n), rw z at (tables-few (cat .n) 0), L .cells, L .tables)
+      omega (arith, head-length, head-few cat, rw z at (tables-few (cat .n) 0), L .cells, L .tables)
 
 -- ---- the answer
 

@@ -1,6 +1,6 @@
 -- "Write checks in image order: 4 (m, then n); per table 5, 6, 8; per row 10, then 7; last 11. A refusal writes nothing. Success gives the
 -- length; bytes behind it stay." #106 puts 16 "after these over all tables and before the first cell", so that 5, 6 and 8 of every table come before
--- the rows of the first. Assumes nothing.
+-- the rows of the first. #111 puts 21 between 10 and 7. Assumes nothing.
 use Prim.Native.Nat.{ℕ, zero, suc, _+_, _*_, _^_, _<_}
 use mathlib.Core.Path.{_≡_}
 use mathlib.Core.List.{List, [], _∷_, _++_}
@@ -14,7 +14,7 @@ use Rattle.tables.specs.declared.Catalogue.{Catalogue}
 use Rattle.tables.specs.Catalogues.{schemeOf, countOf, firstCell}
 use Rattle.tables.specs.Rows.{below}
 use Rattle.tables.specs.Checks.{firstOf, catalogueFault, Lawful}
-use Rattle.tables.specs.Sizes.{version}
+use Rattle.tables.specs.Versions.{versionOf, blank}
 use Rattle.writer.specs.declared.Written.{Written}
 use Rattle.writer.specs.declared.Written.the-variants.{Length, Refused}
 
@@ -33,26 +33,31 @@ tablesImage zero cat cells t = []
 tablesImage (suc k) cat cells t =
     encode (schemeOf cat t) ++ (encode (countOf cat t) ++ (encodes (cellsOf cat cells t) ++ tablesImage k cat cells (t + 1)))
 
+-- The image's head: "version (1), m, n". "Images with a table above 255 rows carry version 2, all others version 1" (#110).
+abbrev pub headBytes : Catalogue → List ℕ
+headBytes cat = encode (versionOf cat) ++ (encode (cat .m) ++ encode (cat .n))
+
 -- "In order: version (1), m, n; then for each table .. Nothing follows."
 unfoldable pub imageOf : Catalogue → List ℕ → List ℕ
-imageOf cat cells = encode version ++ (encode (cat .m) ++ (encode (cat .n) ++ tablesImage (cat .n) cat cells 0))
+imageOf cat cells = headBytes cat ++ tablesImage (cat .n) cat cells 0
 
 -- "10: a cell code of 2^63 or more"
 unfoldable pub tooHigh : List ℕ → Bool
 tooHigh [] = false
 tooHigh (x ∷ xs) = leb (2 ^ 63) x || tooHigh xs
 
--- k rows of w cells, the next of which begins at cell `at`; the row before them, unless they are the first, begins at `before`.
--- "per row 10, then 7"
-unfoldable pub rowsFault : ℕ → ℕ → List ℕ → Bool → ℕ → ℕ → ℕ
-rowsFault zero w cells first before at = 0
-rowsFault (suc k) w cells first before at =
+-- k rows of w cells, to be written in version v, the next of which begins at cell `at`; the row before them, unless they are the first, begins at `before`.
+-- "per row 10, then 7", and "21, an all-null row where version 2 .. would be written; after the row's last cell, before 7" (#111)
+unfoldable pub rowsFault : ℕ → ℕ → List ℕ → ℕ → Bool → ℕ → ℕ → ℕ
+rowsFault zero w cells v first before at = 0
+rowsFault (suc k) w cells v first before at =
     cond (tooHigh (part at w cells)) 10
-    (cond (first || below (part before w cells) (part at w cells)) (rowsFault k w cells false at (at + w)) 7)
+    (cond (blank v (part at w cells)) 21
+    (cond (first || below (part before w cells) (part at w cells)) (rowsFault k w cells v false at (at + w)) 7))
 
 -- The rows of table t.
 abbrev pub rowsRefusal : Catalogue → List ℕ → ℕ → ℕ
-rowsRefusal cat cells t = rowsFault (countOf cat t) (ones (schemeOf cat t)) cells true 0 (firstCell cat t)
+rowsRefusal cat cells t = rowsFault (countOf cat t) (ones (schemeOf cat t)) cells (versionOf cat) true 0 (firstCell cat t)
 
 -- The rows of k tables from table t on.
 unfoldable pub cellsFault : ℕ → Catalogue → List ℕ → ℕ → ℕ

@@ -4,9 +4,10 @@ ghost use mathlib.Core.Bool.{true, false};
 ghost use Prim.Native.Nat.{_+_, _*_, _≤_};
 ghost use lib.ListN.{length};
 ghost use Rattle.laws.specs.Lists.{part};
-ghost use Rattle.tables.specs.Sizes.{mostCells};
-ghost use Rattle.tables.specs.Rows.{below};
-ghost use Rattle.writer.specs.Write.{encodes, imageOf, tooHigh, rowsFault, writeFault};
+ghost use Rattle.tables.specs.Sizes.{mostAttributes, mostTables, mostCells};
+ghost use Rattle.tables.specs.Rows.{below, allNull};
+ghost use Rattle.tables.specs.Versions.{blank};
+ghost use Rattle.writer.specs.Write.{encodes, headBytes, imageOf, tooHigh, rowsFault, writeFault};
 use tables::Catalogue;
 
 // Whether a code of the row that begins at a cell is 2^63 or more.
@@ -50,10 +51,39 @@ fn rises(cells: &[u64], before: usize, at: usize, width: usize) -> bool
     false
 }
 
-// 10 or 7 for the rows of a table whose cells begin at `start`, else 0.
-fn rows_fault(cells: &[u64], start: usize, rows: usize, width: usize) -> usize
+// Whether the row that begins at a cell has no value: every code is 0.
+fn all_null(cells: &[u64], at: usize, width: usize) -> bool
+    requires { ⌜ at + width ≤ length (now cells) ⌝ }
+    ensures { λ r. ⌜ r ≡ allNull (part at width (now (cells .entry))) ⌝ }
+{
+    let mut i = at;
+    let mut left = width;
+    while 0 < left {
+        if cells[i] != 0 {
+            return false;
+        }
+        i = i + 1;
+        left = left - 1;
+    }
+    true
+}
+
+// Whether the row that begins at a cell is an all-null one that version 2 would be written with (21).
+// Version 1 may hold such rows, and they are not looked for there.
+fn blank_at(cells: &[u64], v: u64, at: usize, width: usize) -> bool
+    requires { ⌜ at + width ≤ length (now cells) ⌝ }
+    ensures { λ r. ⌜ r ≡ blank v (part at width (now (cells .entry))) ⌝ }
+{
+    if v != 2 {
+        return false;
+    }
+    all_null(cells, at, width)
+}
+
+// 10, 21 or 7 for the rows of a table whose cells begin at `start`, to be written in this version, else 0.
+fn rows_fault(cells: &[u64], v: u64, start: usize, rows: usize, width: usize) -> usize
     requires { ⌜ start + rows * width ≤ length (now cells) ⌝ }
-    ensures { λ r. ⌜ r ≡ rowsFault rows width (now (cells .entry)) true 0 start ⌝ }
+    ensures { λ r. ⌜ r ≡ rowsFault rows width (now (cells .entry)) v true 0 start ⌝ }
 {
     let mut first = true;
     let mut before: usize = 0;
@@ -62,6 +92,9 @@ fn rows_fault(cells: &[u64], start: usize, rows: usize, width: usize) -> usize
     while 0 < left {
         if code_high(cells, at, width) {
             return 10;
+        }
+        if blank_at(cells, v, at, width) {
+            return 21;
         }
         if first || rises(cells, before, at, width) {
             first = false;
@@ -75,7 +108,7 @@ fn rows_fault(cells: &[u64], start: usize, rows: usize, width: usize) -> usize
     0
 }
 
-// The first refusal of the tables (4; 5, 6, 8 table by table; 16; then the rows of all tables, each 10, then 7), or 0.
+// The first refusal of the tables (4; 5, 6, 8 table by table; 16; then the rows of all tables, each 10, 21, then 7), or 0.
 // No cell is looked at before the whole catalogue is known to be lawful.
 pub fn fault(cat: Catalogue, cells: &[u64]) -> usize
     ensures { λ r. ⌜ r ≡ writeFault cat (now (cells .entry)) ⌝ }
@@ -85,11 +118,12 @@ pub fn fault(cat: Catalogue, cells: &[u64]) -> usize
         return f;
     }
     let n = cat.n;
+    let version = tables::version_of(cat);
     let mut t: usize = 0;
     while t < n {
         let start = cat.places[t] as usize;
         let width = tables::width(cat.schemes[t]);
-        let g = rows_fault(cells, start, cat.rows[t] as usize, width);
+        let g = rows_fault(cells, version, start, cat.rows[t] as usize, width);
         if g != 0 {
             return g;
         }
@@ -114,13 +148,22 @@ fn run_size(cells: &[u64], from: usize, count: usize) -> usize
     sum
 }
 
+// How many bytes the image's head takes.
+fn head_size(cat: Catalogue) -> usize
+    requires { ⌜ (cat .m ≤ mostAttributes) × (cat .n ≤ mostTables) ⌝ }
+    ensures { λ r. ⌜ r ≡ length (headBytes cat) ⌝ }
+{
+    let version = tables::version_of(cat);
+    numbers::size(version) + numbers::size(cat.m as u64) + numbers::size(cat.n as u64)
+}
+
 // The length of the image of tables that meet no refusal.
 pub fn image_length(cat: Catalogue, cells: &[u64]) -> usize
     requires { ⌜ writeFault cat (now cells) ≡ 0 ⌝ }
     ensures { λ r. ⌜ r ≡ length (imageOf cat (now (cells .entry))) ⌝ }
 {
     let n = cat.n;
-    let mut sum: usize = numbers::size(1) + numbers::size(cat.m as u64) + numbers::size(n as u64);
+    let mut sum: usize = head_size(cat);
     let mut t: usize = 0;
     while t < n {
         let scheme = cat.schemes[t];

@@ -6,8 +6,8 @@ ghost use Prim.Native.Nat.{_+_, _^_, _≤_, _<_};
 ghost use lib.ListN.{length};
 ghost use Rattle.laws.specs.Lists.{put, part, Placed};
 ghost use Rattle.numbers.specs.Numbers.{encode};
-ghost use Rattle.tables.specs.Sizes.{version};
-ghost use Rattle.writer.specs.Write.{encodes, imageOf, tooHigh, writeFault};
+ghost use Rattle.tables.specs.Sizes.{mostAttributes, mostTables};
+ghost use Rattle.writer.specs.Write.{encodes, headBytes, imageOf, tooHigh, writeFault};
 use tables::Catalogue;
 
 // Writes one number from a place on, and gives the place behind it.
@@ -35,14 +35,23 @@ fn put_run(cells: &[u64], from: usize, count: usize, out: &mut [u8], start: usiz
     at
 }
 
-// Writes the image's head: version, m and n.
-fn put_head(m: u64, n: u64, out: &mut [u8]) -> usize
-    requires { ⌜ (m < 2 ^ 63) × (n < 2 ^ 63) × (length (encode version) + length (encode m) + length (encode n) ≤ length (now out)) ⌝ }
-    ensures { λ r. ⌜ Placed (encode version ++ (encode m ++ encode n)) 0 (now (out .entry)) r (now (out .exit)) ⌝ }
+// Writes three numbers from the start on.
+fn put_three(a: u64, b: u64, c: u64, out: &mut [u8]) -> usize
+    requires { ⌜ (a < 2 ^ 63) × (b < 2 ^ 63) × (c < 2 ^ 63) × (length (encode a) + length (encode b) + length (encode c) ≤ length (now out)) ⌝ }
+    ensures { λ r. ⌜ Placed (encode a ++ (encode b ++ encode c)) 0 (now (out .entry)) r (now (out .exit)) ⌝ }
 {
-    let behind_version = put_number(1, out, 0);
-    let behind_m = put_number(m, out, behind_version);
-    put_number(n, out, behind_m)
+    let behind_a = put_number(a, out, 0);
+    let behind_b = put_number(b, out, behind_a);
+    put_number(c, out, behind_b)
+}
+
+// Writes the image's head: the version that the tables carry, m and n.
+fn put_head(cat: Catalogue, out: &mut [u8]) -> usize
+    requires { ⌜ (cat .m ≤ mostAttributes) × (cat .n ≤ mostTables) × (length (headBytes cat) ≤ length (now out)) ⌝ }
+    ensures { λ r. ⌜ Placed (headBytes cat) 0 (now (out .entry)) r (now (out .exit)) ⌝ }
+{
+    let version = tables::version_of(cat);
+    put_three(version, cat.m as u64, cat.n as u64, out)
 }
 
 // Writes one table: its scheme, its row count and its cells.
@@ -69,7 +78,7 @@ pub fn put_image(cat: Catalogue, cells: &[u64], out: &mut [u8])
     ensures { λ _. ⌜ now (out .exit) ≡ put (imageOf cat (now (cells .entry))) (now (out .entry)) ⌝ }
 {
     let n = cat.n;
-    let mut at = put_head(cat.m as u64, n as u64, out);
+    let mut at = put_head(cat, out);
     let mut t: usize = 0;
     while t < n {
         let scheme = cat.schemes[t];

@@ -1,14 +1,14 @@
 //! Times the library beside the same rule in Rust, as worded and with shortcuts, in one run: ratios, never seconds alone.
-//! Use: peer-bench [repeats]; peer-bench rows or lists for the streams of one row or the checks of lists alone; peer-bench once LETTER FORM for one drain of a case by one form (0 the
-//! library, 1 as worded, 2 with shortcuts), whose instructions callgrind counts; peer-bench listings PROGRAM [repeats] for the listing program beside a
-//! plain listing in Rust, which is peer-bench list of the image on standard input; or peer-bench sql for the chain's tables and their nested full outer
-//! joins as SQL.
+//! Use: peer-bench [repeats]; peer-bench rows, lists or growth for the streams of one row, the checks of lists or the growth with the rows of a table
+//! alone; peer-bench once LETTER FORM for one drain of a case by one form (0 the library, 1 as worded, 2 with shortcuts), whose instructions callgrind
+//! counts; peer-bench listings PROGRAM [repeats] for the listing program beside a plain listing in Rust, which is peer-bench list of the image on
+//! standard input; or peer-bench sql for the chain's tables and their nested full outer joins as SQL.
 #![forbid(unsafe_code)]
 use peer::image::{self, Catalogue};
 use peer::make::{self, Tables};
 use peer::random::Random;
 use peer::listing::{self, Next, Open};
-use peer::rule::{self, Answer, Asked, Outcome, Store};
+use peer::rule::{self, Answer, Asked, Key, Outcome, Store};
 use peer::words::{self, Call, HOLDING, RESULT};
 use peer::{library, swift};
 use std::fs::{self, File};
@@ -42,24 +42,25 @@ impl Drained {
     }
 
     /// Takes in a set.
-    fn set(&mut self, key: u64, padded: &[u64]) {
+    fn set(&mut self, key: Key, padded: &[u64]) {
         self.sets += 1;
-        for &word in [key].iter().chain(padded) {
+        for &word in [key.low, key.high].iter().chain(padded) {
             self.stirred = (self.stirred ^ word).wrapping_mul(0x9e37_79b9_7f4a_7c15).rotate_left(23);
         }
     }
 }
 
-/// The three slices of a store, made once for all drains.
+/// The four slices of a store, made once for all drains.
 struct Room {
-    keys: Vec<u64>,
+    low: Vec<u64>,
+    high: Vec<u64>,
     left: Vec<u16>,
     right: Vec<u16>,
 }
 
 impl Room {
     fn store(&mut self) -> Store<'_> {
-        Store { keys: &mut self.keys, left: &mut self.left, right: &mut self.right }
+        Store { low: &mut self.low, high: &mut self.high, left: &mut self.left, right: &mut self.right }
     }
 }
 
@@ -76,9 +77,9 @@ fn by_library(tables: &Tables, room: &mut Room, asked: Asked, budget: u64) -> Dr
     loop {
         let call = Call { record: &mut record, budget, padded: &mut padded, result: &mut result };
         let answer = next(&catalogue, &tables.cells, &mut store, call);
-        drained.call([result[1], result[2], result[3]]);
+        drained.call([result[2], result[3], result[4]]);
         match answer {
-            32 => drained.set(result[0], &padded[..tables.catalogue.m as usize]),
+            32 => drained.set(Key::of(result[0], result[1]), &padded[..tables.catalogue.m as usize]),
             64 => return drained,
             96 => (),
             other => panic!("the library answers {other}"),
@@ -152,6 +153,17 @@ fn ticks() -> Tables {
     tables(9, &shapes, |_, row, a| if a == 0 { 1 + row } else { row % 100 + 1 })
 }
 
+/// Eight tables of one attribute, the tick, with so many rows each: ten-minute notes of a week are 1,008.
+fn plain_ticks(rows: u16) -> Tables {
+    tables(1, &[(1, rows); 8], |_, row, _| 1 + row)
+}
+
+/// Four tables that share a tick, each with an attribute of its own, and the notes of a week.
+fn week() -> Tables {
+    let shapes: Vec<(u64, u16)> = (0..4).map(|table| (1 | 2 << table, 1008)).collect();
+    tables(5, &shapes, |_, row, a| if a == 0 { 1 + row } else { row % 100 + 1 })
+}
+
 /// The same tables with the rows of each in falling order. A stream takes them; an image they make not.
 fn turned(mut made: Tables) -> Tables {
     let mut place = 0;
@@ -164,20 +176,22 @@ fn turned(mut made: Tables) -> Tables {
     made
 }
 
-/// A case: its letter and name, its tables, and the budget of each call of a drain.
+/// A case: its letter and name, its tables, the budget of each call of a drain, and whether the rule as worded is timed on it.
+/// With thousands of rows it is not: a trial then tests each of them several times, and (f) makes 295 thousand million row tests.
 struct Case {
     letter: &'static str,
     name: &'static str,
     tables: Tables,
     budget: u64,
+    worded: bool,
 }
 
 /// A case that is drained with all the trials that a call can make.
 fn case(letter: &'static str, name: &'static str, tables: Tables) -> Case {
-    Case { letter, name, tables, budget: u64::MAX }
+    Case { letter, name, tables, budget: u64::MAX, worded: true }
 }
 
-/// (a) to (e), (h) and (i).
+/// (a) to (i).
 fn cases() -> Vec<Case> {
     let mut random = Random::new(7);
     let wide = [((1 << 63) - 1, 43), ((1 << 63) - 1, 43), ((1 << 63) - 1, 43)];
@@ -188,8 +202,10 @@ fn cases() -> Vec<Case> {
         case("c", "eight tables of 255 rows sharing a tick", ticks()),
         case("d", "three tables of 63 attributes", tables(63, &wide, |table, row, a| if a == 62 && row % 3 == table as u64 { row } else { row % 5 + 2 })),
         case("e", "dense random tables", tables(5, &dense, |_, _, _| random.below(5))),
+        Case { worded: false, ..case("f", "eight tables of 1,008 ticks", plain_ticks(1008)) },
+        Case { worded: false, ..case("g", "four tables of 1,008 rows sharing a tick", week()) },
         case("h", "(c) with rows in falling order", turned(ticks())),
-        Case { letter: "i", name: "(c) with budget 1", tables: ticks(), budget: 1 },
+        Case { budget: 1, ..case("i", "(c) with budget 1", ticks()) },
     ]
 }
 
@@ -211,10 +227,10 @@ fn best<const FORMS: usize>(repeats: usize, mut run: impl FnMut(usize)) -> [f64;
 
 /// Room for the longest drain.
 fn room() -> Room {
-    Room { keys: vec![0; RECORDS], left: vec![0; RECORDS], right: vec![0; RECORDS] }
+    Room { low: vec![0; RECORDS], high: vec![0; RECORDS], left: vec![0; RECORDS], right: vec![0; RECORDS] }
 }
 
-/// One drain of a case by one of the three forms.
+/// One drain of a case by one of the three forms: 0 the library, 1 the rule as worded, 2 the rule with shortcuts.
 fn drained(case: &Case, room: &mut Room, form: usize) -> Drained {
     match form {
         0 => by_library(&case.tables, room, Asked::EverySet, case.budget),
@@ -223,20 +239,50 @@ fn drained(case: &Case, room: &mut Room, form: usize) -> Drained {
     }
 }
 
-/// Drains one case in the three forms, compares them, and prints the ratios.
-fn drain(case: &Case, repeats: usize) {
+/// The best times of the library, of the rule with shortcuts, and of the rule as worded where that is timed, each after its drain was compared.
+fn drain_times(case: &Case, ours: Drained, repeats: usize) -> (f64, f64, Option<f64>) {
     let mut room = room();
-    let ours = drained(case, &mut room, 0);
-    assert_eq!(ours, drained(case, &mut room, 1), "{}: the rule as worded differs", case.name);
     assert_eq!(ours, drained(case, &mut room, 2), "{}: the rule with shortcuts differs", case.name);
+    if !case.worded {
+        let [library, swift] = best(repeats, |number| {
+            black_box(drained(case, &mut room, 2 * number));
+        });
+        return (library, swift, None);
+    }
+    assert_eq!(ours, drained(case, &mut room, 1), "{}: the rule as worded differs", case.name);
     let [library, worded, swift] = best(repeats, |number| {
         black_box(drained(case, &mut room, number));
     });
+    (library, swift, Some(worded))
+}
+
+/// Drains one case in its forms, compares them, and prints the ratios.
+fn drain(case: &Case, repeats: usize) {
+    let ours = drained(case, &mut room(), 0);
+    let (library, swift, worded) = drain_times(case, ours, repeats);
     let each = library / ours.trials as f64 * 1e9;
+    let worded = worded.map_or("     -".to_string(), |worded| format!("{:>6.3}", library / worded));
     println!(
-        "({}) {:<40} {:>6} sets  {library:>9.6} s  {each:>6.0} ns a trial  {:>6.3} of worded  {:>6.3} of shortcuts",
-        case.letter, case.name, ours.sets, library / worded, library / swift
+        "({}) {:<40} {:>6} sets  {library:>9.6} s  {each:>6.0} ns a trial  {worded} of worded  {:>6.3} of shortcuts",
+        case.letter, case.name, ours.sets, library / swift
     );
+}
+
+/// Drains eight tables of one attribute with more and more rows, and prints how a trial's time grows, beside the rule with shortcuts.
+fn growth(repeats: usize) {
+    println!("the growth with the rows of a table, the best of {repeats}:");
+    let mut first = None;
+    for rows in [255, 510, 1020] {
+        let case = Case { worded: false, ..case("j", "eight tables of ticks", plain_ticks(rows)) };
+        let ours = drained(&case, &mut room(), 0);
+        let (library, swift, _) = drain_times(&case, ours, repeats);
+        let each = |time: f64| time / ours.trials as f64 * 1e9;
+        let first = *first.get_or_insert(each(library));
+        println!(
+            "eight tables of {rows:>5} rows {:>8} trials  {library:>9.6} s  {:>6.1} ns a trial, {:>6.3} of the first; {:>6.1} ns with shortcuts",
+            ours.trials, each(library), each(library) / first, each(swift)
+        );
+    }
 }
 
 /// Rows of the cases of that letter, by table and number: few of a case's sets hold one, of the star an eighth.
@@ -300,13 +346,14 @@ fn write(name: &str, tables: &Tables, repeats: usize) {
 }
 
 /// The keys of all sets of the tables, as the library hands them out.
-fn keys_of(tables: &Tables, room: &mut Room) -> Vec<u64> {
+fn keys_of(tables: &Tables, room: &mut Room) -> Vec<Key> {
     let drained = by_library(tables, room, Asked::EverySet, u64::MAX);
-    room.keys[..drained.sets as usize].to_vec()
+    let store = room.store();
+    (0..drained.sets as usize).map(|record| store.key(record)).collect()
 }
 
 /// The same keys in another order.
-fn shuffled(keys: &[u64]) -> Vec<u64> {
+fn shuffled(keys: &[Key]) -> Vec<Key> {
     let (mut list, mut random) = (keys.to_vec(), Random::new(7));
     for place in (1..list.len()).rev() {
         list.swap(place, random.below(place as u64 + 1) as usize);
@@ -314,9 +361,15 @@ fn shuffled(keys: &[u64]) -> Vec<u64> {
     list
 }
 
+/// The two slices of a list: the first and the second words of its keys.
+fn words_of_keys(list: &[Key]) -> (Vec<u64>, Vec<u64>) {
+    list.iter().map(|key| (key.low, key.high)).unzip()
+}
+
 /// The check of a right list, which has to find it right.
-fn check_list(tables: &Tables, list: &[u64]) {
-    let answer = library::check_list(&words::words_of(&tables.catalogue), &tables.cells, black_box(list), &mut [0]);
+fn check_list(tables: &Tables, list: &(Vec<u64>, Vec<u64>)) {
+    let (low, high) = black_box(list);
+    let answer = library::check_list(&words::words_of(&tables.catalogue), &tables.cells, (low, high), &mut [0; 2]);
     assert!(answer == 32, "the check of a right list gives {answer}");
 }
 
@@ -329,17 +382,18 @@ fn lists(repeats: usize) {
     sorted.sort_unstable();
     let orders = [("as handed out", handed.clone()), ("sorted", sorted), ("shuffled", shuffled(&handed))];
     for (name, list) in &orders {
+        let list = words_of_keys(list);
         let [checked, drained] = best(repeats, |form| match form {
-            0 => check_list(&star, list),
+            0 => check_list(&star, &list),
             _ => drop(black_box(by_library(&star, &mut room, Asked::EverySet, u64::MAX))),
         });
-        println!("the star's list, {name:<26} {:>6} sets  {checked:>9.6} s  {:>6.3} of the drain", list.len(), checked / drained);
+        println!("the star's list, {name:<26} {:>6} sets  {checked:>9.6} s  {:>6.3} of the drain", list.0.len(), checked / drained);
     }
     for counts in [[23, 4, 3, 2], [20, 6, 3, 3], [16, 8, 4, 4], [8, 8, 8, 8]] {
         let star = make::star(&counts);
-        let list = shuffled(&keys_of(&star, &mut room));
+        let list = words_of_keys(&shuffled(&keys_of(&star, &mut room)));
         let [checked] = best(repeats, |_| check_list(&star, &list));
-        println!("a star of rows {:<29} {:>6} sets  {checked:>9.6} s  {:>6.3} microseconds a set", format!("{counts:?}, N = 32"), list.len(), checked * 1e6 / list.len() as f64);
+        println!("a star of rows {:<29} {:>6} sets  {checked:>9.6} s  {:>6.3} microseconds a set", format!("{counts:?}, N = 32"), list.0.len(), checked * 1e6 / list.0.len() as f64);
     }
 }
 
@@ -385,7 +439,7 @@ fn listings(program: &Path, repeats: usize) {
 /// Does what its words say.
 fn main() {
     let words: Vec<String> = std::env::args().skip(1).collect();
-    let use_ = "use: peer-bench [repeats] | rows | lists | once LETTER FORM | listings PROGRAM [repeats] | list | sql";
+    let use_ = "use: peer-bench [repeats] | rows | lists | growth | once LETTER FORM | listings PROGRAM [repeats] | list | sql";
     match words.iter().map(String::as_str).collect::<Vec<_>>()[..] {
         ["sql"] => print!("{}", sql(&chain())),
         ["list"] => listed(),
@@ -397,6 +451,7 @@ fn main() {
         }
         ["rows"] => rows(5),
         ["lists"] => lists(7),
+        ["growth"] => growth(3),
         [] => all(5),
         [repeats] => all(repeats.parse().expect(use_)),
         _ => panic!("{use_}"),
@@ -412,7 +467,8 @@ fn rows(repeats: usize) {
     }
 }
 
-/// Times every case, first the drains, then those of one row, then the checks of the images of (a) to (e), the largest images written, and lists checked.
+/// Times every case, first the drains, then those of one row, the growth with rows, the checks of the images of (a) to (g), the largest images written,
+/// and lists checked.
 fn all(repeats: usize) {
     assert!(!library::MOCK, "without the library there is nothing to time");
     println!("drains, the best of {repeats}:");
@@ -420,8 +476,9 @@ fn all(repeats: usize) {
         drain(&case, repeats);
     }
     rows(repeats);
+    growth(repeats);
     println!("checks of the same images, the best of {repeats}:");
-    for case in cases().iter().filter(|case| "abcde".contains(case.letter)) {
+    for case in cases().iter().filter(|case| "abcdefg".contains(case.letter)) {
         check(case.name, &case.tables, repeats);
     }
     println!("the largest images written, the best of {repeats}:");

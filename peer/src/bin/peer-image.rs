@@ -9,7 +9,7 @@ use peer::random::Random;
 use peer::refusal::Refusal;
 use peer::stored;
 use peer::tally::Tally;
-use peer::words::{self, CATALOGUE, GIVEN};
+use peer::words::{self, CATALOGUE, GIVEN, SHORT_SLICE};
 use peer::{hold, library};
 use std::process::exit;
 
@@ -94,12 +94,12 @@ fn compare_write(random: &mut Random, case: &WriterCase) -> Result<(u64, Lent<u8
     Ok((ours, our_out))
 }
 
-/// Does a table before the one that is refused have a row that would be refused, with 10 or 7?
+/// Does a table before the one that is refused have a row that would be refused, with 10, 21 or 7?
 /// The writer looks at it later than at every table's entries, so that it is not met.
 fn earlier_row(case: &WriterCase) -> bool {
     let catalogue = words::catalogue_of(&case.catalogue);
     let first = |n| image::form(&Catalogue { n, ..catalogue }.filled(), &case.cells);
-    (1..catalogue.n.min(8)).any(|n| matches!(first(n), Err(Refusal::Code | Refusal::Order)))
+    (1..catalogue.n.min(8)).any(|n| matches!(first(n), Err(Refusal::Code | Refusal::NullRow | Refusal::Order)))
 }
 
 /// Counts what the writer's answer to a case tells of its order.
@@ -108,6 +108,23 @@ fn note_order(tally: &mut Tally, case: &WriterCase, refusal: u64) {
     stored::note(tally, "write", refusal, &case.catalogue, |words| words::write(words, &case.cells, &mut vec![0; case.out]));
     if [5, 6, 8].contains(&refusal) && earlier_row(case) {
         tally.note("write before an earlier row", refusal);
+    }
+    if [0, 7, 10, 11, 21].contains(&refusal) {
+        tally.note(&format!("write version {}", words::catalogue_of(&case.catalogue).version()), refusal);
+    }
+}
+
+/// The version that an image begins with, if it is one of the two.
+/// It is a number of one byte.
+fn version_of(image: &[u8]) -> Option<u8> {
+    image.first().copied().filter(|version| [1, 2].contains(version))
+}
+
+/// Counts an answer of a call by the version of its image.
+/// Images of another version have no row of their own.
+fn note_version(tally: &mut Tally, call: &str, image: &[u8], refusal: u64) {
+    if let (Some(version), true) = (version_of(image), refusal != SHORT_SLICE) {
+        tally.note(&format!("{call} version {version}"), refusal);
     }
 }
 
@@ -119,11 +136,13 @@ fn compare_image(random: &mut Random, tally: &mut Tally) -> Result<(), String> {
     let image = if random.percent(45) { make::good(&tables) } else { make::damaged(random, tables.clone()) };
     let checked = compare_check(&image)?;
     tally.meet("check", checked % 32);
+    note_version(tally, "check", &image, checked % 32);
     let lent = make::lent_cells(random, needed);
     let catalogue_words = make::lent_words(random, CATALOGUE);
     let counts = random.pick(&[0, 1, 1, 1, 1, 1, 1, 2]);
     let loaded = compare_load(random, &image, lent, catalogue_words, counts)?;
     tally.meet("load", loaded.answer % 32);
+    note_version(tally, "load", &image, loaded.answer % 32);
     if let (Some(count), 1 | 2 | 17) = (loaded.looked.slice().first(), loaded.answer % 32) {
         tally.note("count", format!("{} with {count}", loaded.answer % 32));
         tally.note("counts", loaded.answer % 32);
@@ -181,7 +200,7 @@ fn compare_edges(random: &mut Random, tally: &mut Tally) {
         let result = image_edge(random, &edge);
         tally.compare(result.map(|_| ()));
     }
-    for edge in edges::writer() {
+    for edge in edges::writer().into_iter().chain(edges::long_writer()) {
         let case = WriterCase { catalogue: edge.catalogue.to_vec(), cells: edge.cells, out: edge.out };
         let result = compare_write(random, &case).and_then(|(answer, out)| {
             hold!(answer == edge.answer.1 * 32 + edge.answer.0, "edge {}: {answer}", edge.name);
@@ -217,12 +236,18 @@ fn main() {
         tally.compare(result);
     }
     let least = LEAST.min(images * LEAST / IMAGES);
-    tally.table("check", &["0", "1", "2", "3", "4", "5", "6", "7", "8", "9", "17"], least);
-    tally.table("load", &["0", "1", "2", "3", "4", "5", "6", "7", "8", "9", "17", "31"], least);
+    tally.table("check", &["0", "1", "2", "3", "4", "5", "6", "7", "8", "9", "17", "20", "21"], least);
+    tally.table("load", &["0", "1", "2", "3", "4", "5", "6", "7", "8", "9", "17", "20", "21", "31"], least);
+    for call in ["check", "load"] {
+        tally.table(&format!("{call} version 1"), &["0", "1", "2", "4", "5", "6", "7", "8", "9", "17"], least);
+        tally.table(&format!("{call} version 2"), &["0", "1", "2", "4", "5", "6", "7", "8", "9", "17", "20", "21"], least / 4);
+    }
     tally.table("counts", &["1", "2", "17"], least);
     tally.table("count", &[], least);
     tally.table("make", &["0", "4", "5", "6", "8", "31"], least);
-    tally.table("write", &["0", "4", "5", "6", "7", "8", "10", "11", "16", "31"], least);
+    tally.table("write", &["0", "4", "5", "6", "7", "8", "10", "11", "16", "21", "31"], least);
+    tally.table("write version 1", &["0", "7", "10", "11"], least);
+    tally.table("write version 2", &["0", "7", "10", "11", "21"], least / 10);
     tally.table("write before an earlier row", &["5", "6", "8"], least);
     stored::tables_of(&mut tally, "write", &["7", "10", "11"], least);
     tally.calls();

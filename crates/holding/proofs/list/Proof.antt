@@ -17,9 +17,12 @@ slice-aggregate-print-3 c = search needs
 slice-aggregate-print-4 : tie.Need-slice-aggregate-print-4
 slice-aggregate-print-4 c = search needs
 
+slice-aggregate-print-5 : tie.Need-slice-aggregate-print-5
+slice-aggregate-print-5 c = search needs
+
 print-requires : tie.Need-print-requires
 unfolding blank
-print-requires c κs = (refl, refl, refl, refl)
+print-requires c κs = (refl, refl, refl, refl, refl)
 
 returns : tie.Need-returns
 returns c = search needs
@@ -32,5 +35,6 @@ list-spec =
     slice-aggregate-print-2
     slice-aggregate-print-3
     slice-aggregate-print-4
+    slice-aggregate-print-5
     print-requires
     returns)

@@ -11,12 +11,13 @@ use Rattle.tables.proofs.CatalogueLaws.{lawful-all}
 use Rattle.disjunction.specs.Standing.{givesBack}
 use Rattle.rows.specs.World.{worldOf, setOf}
 use Rattle.rows.proofs.NamedLaws.{named-iff}
+use Rattle.keys.specs.TwoWords.{numberOf}
 use Rattle.hub.proofs.JudgingLaws.{lost-standing, named-standing}
 use Rattle.hub.proofs.is_maximal.Statement.{statement}
 use Rattle.hub.proofs.is_maximal.Tie as tie
 
 abbrev Inv-loop : tie.InvT-loop
-Inv-loop cat cells layout word n t₀ t = (t ≤ n) × ((v : ℕ) → v < t → givesBack (worldOf cat cells) (setOf cat word) v ≡ true)
+Inv-loop cat cells layout word n t₀ t = (t ≤ n) × ((v : ℕ) → v < t → givesBack (worldOf cat cells) (setOf cat (numberOf word)) v ≡ true)
 
 abbrev μ-loop : tie.MeasureT-loop
 μ-loop cat cells layout word n t₀ t = n - t

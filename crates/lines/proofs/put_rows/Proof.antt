@@ -6,13 +6,14 @@ use Prim.Native.Nat.{_-_}
 use mathlib.Core.Path.{sym, _∙_}
 use Rattle.laws.proofs.ListLaws.{length-tab, tab-at}
 use Rattle.keys.specs.Keys.{bitsPerRow, rowOf, rowsIn}
+use Rattle.keys.specs.TwoWords.{numberOf}
 use Rattle.lines.specs.Lines.{field}
 use Rattle.lines.proofs.LineLaws.{field-few, Run, run-holds, run-next, run-ends}
 use Rattle.lines.proofs.put_rows.Statement.{statement}
 use Rattle.lines.proofs.put_rows.Tie as tie
 
 abbrev Inv-loop : tie.InvT-loop
-Inv-loop key n out₀ start at₀ t₀ out at t = Run field field-few (rowsIn bitsPerRow n key) n start out₀ t at out
+Inv-loop key n out₀ start at₀ t₀ out at t = Run field field-few (rowsIn bitsPerRow n (numberOf key)) n start out₀ t at out
 
 abbrev μ-loop : tie.MeasureT-loop
 μ-loop key n out₀ start at₀ t₀ out at t = n - t
@@ -39,7 +40,8 @@ loop-again c =
     let s = c .before .before .before .before .before .before .before .before .args in
     let l = c .before .before .before .before .before .before .loop in
     let h = c .before .before .before .before .before .loop-test .taken in
-    run-next field field-few h (c .before .before .before .before .row-of .ensures ∙ sym (tab-at (s .n) (rowOf bitsPerRow (s .key)) (l .t) h)) (l .inv) (c .before .before .put-field .ensures)
+    let e = c .before .before .before .before .row-of .ensures ∙ sym (tab-at (s .n) (rowOf bitsPerRow (numberOf (s .key))) (l .t) h) in
+    run-next field field-few h e (l .inv) (c .before .before .put-field .ensures)
 
 same-length : tie.Need-same-length Inv-loop μ-loop
 same-length c = c .before .loop .inv .same

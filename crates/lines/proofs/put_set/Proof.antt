@@ -1,6 +1,7 @@
 -- `lines::put_set` meets its contract: three parts, each behind the one before, are one. Assumes nothing.
 use native.Mathlib.Omega.{arith}
 use Rattle.laws.proofs.PlacedLaws.{placed-three}
+use Rattle.keys.specs.TwoWords.{numberOf}
 use Rattle.lines.specs.Lines.{setLine}
 use Rattle.lines.proofs.LineLaws.{rows-few}
 use borrow.Author.Needs.{needs}
@@ -19,7 +20,9 @@ put-rows-requires c κs = search needs
 put-padded-requires : tie.Need-put-padded-requires
 put-padded-requires c κs =
     let s = c .before .before .before .before .before .before .before .before .before .before .before .before in
-    (s .pre .1, omega (arith, rows-few (s .args .n) (s .args .key), s .pre, c .before .before .before .put-rows .ensures .next, c .before .before .before .before .before .before .before .put-word .ensures .next))
+    let few = rows-few (s .args .n) (numberOf (s .args .key)) in
+    let word = c .before .before .before .before .before .before .before .put-word .ensures in
+    (s .pre .1, omega (arith, few, s .pre, c .before .before .before .put-rows .ensures .next, word .next))
 
 same-length : tie.Need-same-length
 same-length c = search needs
@@ -28,7 +31,9 @@ returns : tie.Need-returns
 unfolding setLine
 returns c =
     let s = c .before .before .before .before .before .before .before .before .before .before .before .before .before .before .before in
-    placed-three (omega (arith, rows-few (s .args .n) (s .args .key), s .pre)) (c .before .before .before .before .before .before .before .before .before .before .put-word .ensures) (c .before .before .before .before .before .before .put-rows .ensures) (c .before .before .put-padded .ensures)
+    let word = c .before .before .before .before .before .before .before .before .before .before .put-word .ensures in
+    let rows = c .before .before .before .before .before .before .put-rows .ensures in
+    placed-three (omega (arith, rows-few (s .args .n) (numberOf (s .args .key)), s .pre)) word rows (c .before .before .put-padded .ensures)
 
 pub put-set-spec : {M : Type 1} → statement M
 put-set-spec =

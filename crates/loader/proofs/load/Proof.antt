@@ -22,7 +22,7 @@ fill-requires c κs =
     let e = c .before .before .before .scan .ensures in
     let g = sym (ap (λ (r : Loaded). r .verdict) e) ∙ c .before .enum-told .given .1 in
     let h = scan-sound (a .image .now) (length (a .cells .now)) (λ k. omega (arith, c .before .before .before .before .before .shared-slice-known .given k)) g in
-    rw e (_, h)
+    rw e (h .0, _, h .1)
 
 enum-told-2 : tie.Need-enum-told-2
 enum-told-2 c = search needs

@@ -5,6 +5,7 @@ use Prim.Native.Nat.{ℕ, _-_, _≤_, _<_}
 use mathlib.Core.Path.{_≡_, sym, _∙_}
 use mathlib.Core.Bool.{false}
 use borrow.Author.Count.{below-more}
+use Rattle.keys.specs.TwoWords.{numberOf}
 use Rattle.padding.specs.Padding.{givesIn}
 use Rattle.padding.proofs.PaddingLaws.{gives-row, code-first, code-null}
 use denote.Ref.{now}
@@ -12,7 +13,7 @@ use Rattle.padding.proofs.code_at.Statement.{statement}
 use Rattle.padding.proofs.code_at.Tie as tie
 
 abbrev Inv-loop : tie.InvT-loop
-Inv-loop cat cells key a n t₀ t = (t ≤ n) × ((u : ℕ) → u < t → givesIn cat key a u ≡ false)
+Inv-loop cat cells key a n t₀ t = (t ≤ n) × ((u : ℕ) → u < t → givesIn cat (numberOf key) a u ≡ false)
 
 abbrev μ-loop : tie.MeasureT-loop
 μ-loop cat cells key a n t₀ t = n - t
@@ -31,7 +32,8 @@ code-of-requires c κs =
     let l = c .before .before .before .before in
     let s = l .before .before in
     let b : l .loop .t < s .args .cat .n = omega arith in
-    let g = gives-row (s .args .cat) (s .args .key) (s .args .a) (l .loop .t) b .0 (sym (c .before .before .table-gives .ensures) ∙ c .before .if1 .taken) in
+    let y = sym (c .before .before .table-gives .ensures) ∙ c .before .if1 .taken in
+    let g = gives-row (s .args .cat) (numberOf (s .args .key)) (s .args .a) (l .loop .t) b .0 y in
     let e = c .row-of .ensures in
     (s .pre .0, b, rw e (g .0), rw e (s .pre .1 .rows (l .loop .t) b), omega (arith, s .pre .0 .attributes), g .1)
 
@@ -42,7 +44,7 @@ returns c =
     let s = l .before .before in
     let y = sym (r .before .before .table-gives .ensures) ∙ r .before .if1 .taken in
     rw (c .code-of .ensures, r .row-of .ensures)
-    (sym (code-first (s .args .cat) (s .args .key) (now (s .args .cells)) (s .args .a) (l .loop .t) (omega arith) y (l .loop .inv .1)))
+    (sym (code-first (s .args .cat) (numberOf (s .args .key)) (now (s .args .cells)) (s .args .a) (l .loop .t) (omega arith) y (l .loop .inv .1)))
 
 add-t : tie.Need-add-t Inv-loop μ-loop
 add-t c = search needs
@@ -58,7 +60,9 @@ loop-again c =
 returns-2 : tie.Need-returns-2 Inv-loop μ-loop
 returns-2 c =
     let s = c .before .before .before in
-    sym (code-null (s .args .cat) (s .args .key) (now (s .args .cells)) (s .args .a) (λ u b. c .before .loop .inv .1 u (omega (arith, c .loop-test .left))))
+    sym
+    (code-null (s .args .cat) (numberOf (s .args .key)) (now (s .args .cells)) (s .args .a)
+    (λ u b. c .before .loop .inv .1 u (omega (arith, c .loop-test .left))))
 
 pub code-at-spec : {M : Type 1} → statement M
 code-at-spec =

@@ -6,6 +6,7 @@ use mathlib.Core.Path.{_≡_, refl, sym, _∙_}
 use lib.ListN.{length, drop, length-set}
 use Rattle.laws.specs.Lists.{put, over}
 use Rattle.laws.proofs.ListLaws.{put-cons, put-nil}
+use Rattle.keys.specs.TwoWords.{numberOf}
 use Rattle.padding.specs.Padding.{paddedRow}
 use Rattle.padding.proofs.PaddingLaws.{pad-more, pad-none}
 use denote.Ref.{now}
@@ -16,7 +17,7 @@ abbrev Inv-loop : tie.InvT-loop
 Inv-loop cat cells key padded₀ m a₀ padded a =
     (a ≤ m)
     × (length padded ≡ length padded₀)
-    × (put (paddedRow cat cells key) padded₀ ≡ over a (drop a (paddedRow cat cells key)) padded)
+    × (put (paddedRow cat cells (numberOf key)) padded₀ ≡ over a (drop a (paddedRow cat cells (numberOf key))) padded)
 
 abbrev μ-loop : tie.MeasureT-loop
 μ-loop cat cells key padded₀ m a₀ padded a = m - a
@@ -43,8 +44,8 @@ loop-again : tie.Need-loop-again Inv-loop μ-loop
 loop-again c =
     let l = c .before .before in
     let s = l .before .before .before in
-    let row = paddedRow (s .args .cat) (now (s .args .cells)) (s .args .key) in
-    let e = pad-more (s .args .cat) (now (s .args .cells)) (s .args .key) (l .loop .a) (omega arith) in (
+    let row = paddedRow (s .args .cat) (now (s .args .cells)) (numberOf (s .args .key)) in
+    let e = pad-more (s .args .cat) (now (s .args .cells)) (numberOf (s .args .key)) (l .loop .a) (omega arith) in (
       omega arith,
       simp length-set (l .loop .inv .1),
       l .loop .inv .2 ∙ rw (e, ← c .code-at .ensures) (put-cons (l .loop .padded) (l .loop .a) (c .code-at .result) (drop (l .loop .a + 1) row) (omega arith)),
@@ -57,7 +58,8 @@ returns : tie.Need-returns Inv-loop μ-loop
 returns c =
     let l = c .before in
     let s = l .before .before .before in
-    sym (l .loop .inv .2 ∙ rw (pad-none (s .args .cat) (now (s .args .cells)) (s .args .key) (l .loop .a) (omega arith)) (put-nil (l .loop .padded) (l .loop .a)))
+    let e = pad-none (s .args .cat) (now (s .args .cells)) (numberOf (s .args .key)) (l .loop .a) (omega arith) in
+    sym (l .loop .inv .2 ∙ rw e (put-nil (l .loop .padded) (l .loop .a)))
 
 pub pad-spec : {M : Type 1} → statement M
 pad-spec =

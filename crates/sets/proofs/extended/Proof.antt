@@ -11,7 +11,8 @@ use lib.Pow.{pow-pos}
 use Rattle.laws.proofs.TestLaws.{and-split}
 use Rattle.words.specs.Words.{bitOf}
 use Rattle.words.proofs.WordLaws.{bit-and, less-lt, less-bit}
-use Rattle.tables.specs.Sizes.{mostTables}
+use Rattle.keys.specs.TwoWords.{numberOf}
+use Rattle.tables.specs.Sizes.{mostTables, mostTotal}
 use Rattle.tables.specs.Catalogues.{countOf, rowsBefore}
 use Rattle.tables.proofs.CatalogueLaws.{one-shl, table-ends, rows-few}
 use Rattle.disjunction.specs.Sets.{at}
@@ -32,20 +33,20 @@ use Rattle.sets.proofs.extended.Statement.{statement}
 use Rattle.sets.proofs.extended.Tie as tie
 
 abbrev Inv-loop : tie.InvT-loop
-Inv-loop cells near cat layout merged attrs reach key tests live₀ live = Shut cat cells key live × (live ≤ live₀)
+Inv-loop cells near cat layout merged attrs reach key tests live₀ live = Shut cat cells (numberOf key) live × (live ≤ live₀)
 
 abbrev μ-loop : tie.MeasureT-loop
 μ-loop cells near cat layout merged attrs reach key tests live₀ live = live
 
 abbrev Inv-rounds : tie.InvT-rounds
 Inv-rounds cells near cat layout merged₀ attrs₀ reach₀ key₀ tests₀ live₀ merged attrs reach key tests live =
-    Growing cat cells key₀ key attrs merged tests × Shut cat cells key live × Reach cat (at (setOf cat key)) reach
+    Growing cat cells (numberOf key₀) (numberOf key) attrs merged tests × Shut cat cells (numberOf key) live × Reach cat (at (setOf cat (numberOf key))) reach
 
 abbrev μ-rounds : tie.MeasureT-rounds
 μ-rounds cells near cat layout merged₀ attrs₀ reach₀ key₀ tests₀ live₀ merged attrs reach key tests live = live
 
 abbrev start : tie.At-loop Inv-loop μ-loop Inv-rounds μ-rounds → tie.Start Inv-loop μ-loop Inv-rounds μ-rounds
-start l = l .before .before .before .before .before .before
+start l = l .before .before .before .before .before .before .before
 
 abbrev walk : tie.After-lowest Inv-loop μ-loop Inv-rounds μ-rounds → tie.At-loop Inv-loop μ-loop Inv-rounds μ-rounds
 walk a = a .before .before
@@ -86,7 +87,7 @@ low f = f .before .before .before .before .before .before .before
 -- the answer is the first of its rows that the row test admits
 looked : (f : tie.After-first-fit Inv-loop μ-loop Inv-rounds μ-rounds)
     → FirstIn (countOf (start (walk (low f)) .args .t1) (low f .lowest .result))
-    (tested (start (walk (low f)) .args .t1) (start (walk (low f)) .args .cells .now) (walk (low f) .before .rounds .key) (low f .lowest .result))
+    (tested (start (walk (low f)) .args .t1) (start (walk (low f)) .args .cells .now) (numberOf (walk (low f) .before .rounds .key)) (low f .lowest .result))
     (f .first-fit .result)
 looked f =
     let a = low f in
@@ -105,21 +106,22 @@ merge-set-requires : tie.Need-merge-set-requires Inv-loop μ-loop Inv-rounds μ-
 merge-set-requires c κs = let s = c .before .before in (s .pre .0, s .pre .1, s .pre .2, s .pre .3, refl)
 
 shl-live : tie.Need-shl-live Inv-loop μ-loop Inv-rounds μ-rounds
-shl-live c = omega (arith, c .before .before .before .pre .0 .tables)
+shl-live c = omega (arith, c .before .before .before .before .pre .0 .tables)
 
 -- the bit behind those of the tables
-above : (c : tie.After-merge-set Inv-loop μ-loop Inv-rounds μ-rounds)
-    → 1 * 2 ^ (c .before .before .before .args .t1 .n) % 2 ^ 64 ≡ 2 ^ (c .before .before .before .args .t1 .n)
-above c = one-shl _ (omega (arith, c .before .before .before .pre .0 .tables))
+above : (c : tie.After-key Inv-loop μ-loop Inv-rounds μ-rounds)
+    → 1 * 2 ^ (c .before .before .before .before .args .t1 .n) % 2 ^ 64 ≡ 2 ^ (c .before .before .before .before .args .t1 .n)
+above c = one-shl _ (omega (arith, c .before .before .before .before .pre .0 .tables))
 
 sub-live : tie.Need-sub-live Inv-loop μ-loop Inv-rounds μ-rounds
 sub-live c = rw (above c) (pow-pos _)
 
 rounds-holds : tie.Need-rounds-holds Inv-loop μ-loop Inv-rounds μ-rounds
 rounds-holds c =
-    let m = c .before in
+    let k = c .before in
+    let m = k .before in
     let s = m .before .before .before in
-    (growing-start _ _ _ (s .pre .0) _ (s .pre .2) _ _ (m .merge-set .ensures .0), shut-start _ _ _ _ _ (above m) (s .pre .3), m .merge-set .ensures .1)
+    (growing-start _ _ _ (s .pre .0) _ (s .pre .2) _ _ (m .merge-set .ensures .0), shut-start _ _ _ _ _ (above k) (s .pre .3), m .merge-set .ensures .1)
 
 loop-holds : tie.Need-loop-holds Inv-loop μ-loop Inv-rounds μ-rounds
 loop-holds c = (c .rounds .inv .1, omega arith)
@@ -261,8 +263,8 @@ element-copy-out-tests c = omega (arith, eight (low (found (c .before .before) .
 abbrev Sums : tie.After-tests Inv-loop μ-loop Inv-rounds μ-rounds → Type 0
 Sums c =
     let f = found (c .before .before .before) .before in
-    (walk (low f) .before .rounds .tests ≤ mostTests) × (getD (start (walk (low f)) .args .t3 .before) (low f .lowest .result) 0 ≤ 2040)
-    × (f .first-fit .result ≤ 255)
+    (walk (low f) .before .rounds .tests ≤ mostTests) × (getD (start (walk (low f)) .args .t3 .before) (low f .lowest .result) 0 ≤ mostTotal)
+    × (f .first-fit .result ≤ mostTotal)
 
 sums : (c : tie.After-tests Inv-loop μ-loop Inv-rounds μ-rounds) → Sums c
 sums c =
@@ -315,8 +317,8 @@ returns c =
     let s = start l in
     let r = l .before .rounds in
     let z : r .tests + rowsBefore (s .args .t1) (s .args .t1 .n) ≡ r .tests + s .args .t3 .total = omega (arith, s .pre .1 .all) in
-    subst (λ (x : ℕ). Comes (s .args .t1) (extension (worldOf (s .args .t1) (s .args .cells .now)) (setOf (s .args .t1) (s .args .from .key)))
-    (r .key) x) z
+    subst (λ (x : ℕ). Comes (s .args .t1) (extension (worldOf (s .args .t1) (s .args .cells .now)) (setOf (s .args .t1) (numberOf (s .args .from .key))))
+    (numberOf (r .key)) x) z
     (growing-end _ _ _ (s .pre .0) _ (s .pre .2) _ _ _ _ _ (r .inv .0)
     (round-over _ _ _ (s .pre .0) _ _ _ (l .loop .inv .0) (r .inv .2) (c .loop-test .taken)))
 

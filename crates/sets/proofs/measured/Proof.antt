@@ -5,7 +5,7 @@ use Prim.Native.Nat.{ℕ, _+_, _-_, _*_, _≤_, _<_}
 use mathlib.Core.Path.{_≡_, refl, ap, _∙_}
 use lib.Count.{ones, ones-le}
 use Rattle.tables.specs.declared.Catalogue.{Catalogue}
-use Rattle.tables.specs.Sizes.{mostTables, mostRows}
+use Rattle.tables.specs.Sizes.{mostTables, mostTotal}
 use Rattle.tables.specs.Catalogues.{schemeOf, countOf, rowsBefore}
 use Rattle.tables.proofs.CatalogueLaws.{rows-next, rows-few}
 use Rattle.tables.proofs.StoredLaws.{Entered, entered-none, entered-next}
@@ -28,7 +28,7 @@ abbrev Ends : tie.In-loop Inv-loop μ-loop → Type 0
 Ends c =
     let l = c .before in
     let cat = l .before .args .t1 in
-    (l .loop .t < cat .n) × (l .loop .t < mostTables) × (l .loop .total + countOf cat (l .loop .t) ≤ mostRows * mostTables) × (width cat (l .loop .t) ≤ 64)
+    (l .loop .t < cat .n) × (l .loop .t < mostTables) × (l .loop .total + countOf cat (l .loop .t) ≤ mostTotal) × (width cat (l .loop .t) ≤ 64)
 
 ends : (c : tie.In-loop Inv-loop μ-loop) → Ends c
 ends c =

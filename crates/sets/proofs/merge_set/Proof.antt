@@ -6,6 +6,7 @@ use Prim.Native.Nat.{_<_}
 use mathlib.Core.Path.{_≡_, sym, _∙_}
 use Rattle.words.proofs.WordLaws.{less-lt}
 use Rattle.keys.specs.Keys.{bitsPerRow}
+use Rattle.keys.specs.TwoWords.{numberOf}
 use Rattle.keys.proofs.SetLaws.{in-at, in-length}
 use Rattle.tables.specs.Sizes.{mostTables}
 use Rattle.disjunction.specs.Sets.{at, Member}
@@ -26,8 +27,8 @@ use Rattle.sets.proofs.merge_set.Tie as tie
 abbrev Inv-loop : tie.InvT-loop
 Inv-loop cells held merged₀ cat layout attrs₀ reach₀ rest₀ merged attrs reach rest =
     Under rest (held .tables)
-    × Merged cat cells (at (lacking (setOf cat (held .key)) rest)) merged attrs
-    × Reach cat (at (lacking (setOf cat (held .key)) rest)) reach
+    × Merged cat cells (at (lacking (setOf cat (numberOf (held .key))) rest)) merged attrs
+    × Reach cat (at (lacking (setOf cat (numberOf (held .key))) rest)) reach
 
 abbrev μ-loop : tie.MeasureT-loop
 μ-loop cells held merged₀ cat layout attrs₀ reach₀ rest₀ merged attrs reach rest = rest
@@ -36,7 +37,7 @@ abbrev start : tie.After-lowest Inv-loop μ-loop → tie.Start Inv-loop μ-loop
 start a = a .before .before .before .before
 
 -- the table of the next row is one of the set's
-listed : (a : tie.After-lowest Inv-loop μ-loop) → Member (setOf (start a .args .t1) (start a .args .held .key)) (a .lowest .result)
+listed : (a : tie.After-lowest Inv-loop μ-loop) → Member (setOf (start a .args .t1) (numberOf (start a .args .held .key))) (a .lowest .result)
 listed a =
     let s = start a in
     tables-has _ _ (s .pre .3) _ (a .before .before .loop .inv .0 _ (a .lowest .ensures .itself))
@@ -44,8 +45,8 @@ listed a =
 turn : (a : tie.After-lowest Inv-loop μ-loop) → a .lowest .result < start a .args .t1 .n
 turn a =
     let s = start a in
-    rw (in-length bitsPerRow (s .args .t1 .n) (s .args .held .key)) at
-    (tables-lt (setOf (s .args .t1) (s .args .held .key)) _ (s .pre .3) _ (a .before .before .loop .inv .0 _ (a .lowest .ensures .itself)))
+    rw (in-length bitsPerRow (s .args .t1 .n) (numberOf (s .args .held .key))) at
+    (tables-lt (setOf (s .args .t1) (numberOf (s .args .held .key))) _ (s .pre .3) _ (a .before .before .loop .inv .0 _ (a .lowest .ensures .itself)))
 
 eight : (a : tie.After-lowest Inv-loop μ-loop) → a .lowest .result < mostTables
 eight a = omega (arith, turn a, start a .pre .0 .tables)
@@ -56,7 +57,7 @@ small a = let s = start a in laid-small (s .args .t1) _ (s .pre .0) (s .args .ce
 loop-holds : tie.Need-loop-holds Inv-loop μ-loop
 loop-holds c =
     let s = c .before in
-    let z = lacking-all (setOf (s .args .t1) (s .args .held .key)) _ (s .pre .3) in
+    let z = lacking-all (setOf (s .args .t1) (numberOf (s .args .held .key))) _ (s .pre .3) in
     (λ u b. b, merged-none _ _ _ _ (s .pre .4) z, gathered-none _ _ z)
 
 lowest-requires : tie.Need-lowest-requires Inv-loop μ-loop
@@ -90,10 +91,10 @@ element-copy-out-merge-add c = omega (arith, eight (c .before .before .before))
 abbrev low : tie.After-row-of Inv-loop μ-loop → tie.After-lowest Inv-loop μ-loop
 low q = q .before .before .before
 
-own : (q : tie.After-row-of Inv-loop μ-loop) → at (setOf (start (low q) .args .t1) (start (low q) .args .held .key)) (low q .lowest .result) ≡ q .row-of .result
+own : (q : tie.After-row-of Inv-loop μ-loop) → at (setOf (start (low q) .args .t1) (numberOf (start (low q) .args .held .key))) (low q .lowest .result) ≡ q .row-of .result
 own q =
     let s = start (low q) in
-    in-at bitsPerRow (s .args .t1 .n) (s .args .held .key) _ (turn (low q)) ∙ sym (q .row-of .ensures)
+    in-at bitsPerRow (s .args .t1 .n) (numberOf (s .args .held .key)) _ (turn (low q)) ∙ sym (q .row-of .ensures)
 
 there : (q : tie.After-row-of Inv-loop μ-loop) → There (start (low q) .args .t1) (low q .lowest .result) (q .row-of .result)
 there q =
@@ -141,7 +142,7 @@ loop-again c =
     let s = start a in
     let l = a .before .before in
     let b = a .lowest .ensures .itself in
-    let o = lacking-more (setOf (s .args .t1) (s .args .held .key)) (l .loop .rest) (a .lowest .result) b _ (own q) (there q .low) in
+    let o = lacking-more (setOf (s .args .t1) (numberOf (s .args .held .key))) (l .loop .rest) (a .lowest .result) b _ (own q) (there q .low) in
     rw (c .without-lowest .ensures _ (a .lowest .ensures)) (
       λ u d. l .loop .inv .0 u (without-under _ _ b u d),
       merged-add (s .args .t1) (s .args .cells .now) _ (s .pre .0) _ _ _ _ (turn a) o _ _ _ _ (l .loop .inv .1)
@@ -153,7 +154,7 @@ returns : tie.Need-returns Inv-loop μ-loop
 returns c =
     let l = c .before in
     let s = l .before .before in
-    let z = lacking-none (setOf (s .args .t1) (s .args .held .key)) in
+    let z = lacking-none (setOf (s .args .t1) (numberOf (s .args .held .key))) in
     (merged-same _ _ _ _ _ _ z (rw (c .loop-test .left) at (l .loop .inv .1)), gathered-same _ _ _ _ z (rw (c .loop-test .left) at (l .loop .inv .2)))
 
 pub merge-set-spec : {M : Type 1} → statement M

@@ -12,6 +12,7 @@ use lib.Count.{ones}
 use Rattle.words.specs.Words.{bitOf}
 use Rattle.words.proofs.WordLaws.{less-lt}
 use Rattle.keys.specs.Keys.{bitsPerRow}
+use Rattle.keys.specs.TwoWords.{numberOf}
 use Rattle.keys.proofs.SetLaws.{in-at, in-length}
 use Rattle.tables.specs.Sizes.{mostTables}
 use Rattle.tables.specs.Catalogues.{schemeOf, rowStart, placeIn, maskIn}
@@ -30,7 +31,7 @@ use Rattle.sets.proofs.parted.Tie as tie
 
 abbrev Inv-loop : tie.InvT-loop
 Inv-loop cells held cat layout table row merged w base attrs gone₀ rest₀ gone rest =
-    Parting cat cells (setOf cat (held .key)) (record { table = table; row = row }) (bitAnd (held .tables) (maskIn cat table)) gone rest
+    Parting cat cells (setOf cat (numberOf (held .key))) (record { table = table; row = row }) (bitAnd (held .tables) (maskIn cat table)) gone rest
 
 abbrev μ-loop : tie.MeasureT-loop
 μ-loop cells held cat layout table row merged w base attrs gone₀ rest₀ gone rest = rest
@@ -49,10 +50,10 @@ begin a = start (alone (walk a))
 
 -- the set, and how long it is
 abbrev set-of : tie.Start Inv-loop μ-loop → List ℕ
-set-of s = setOf (s .args .t1) (s .args .held .key)
+set-of s = setOf (s .args .t1) (numberOf (s .args .held .key))
 
 long : (s : tie.Start Inv-loop μ-loop) → length (set-of s) ≡ s .args .t1 .n
-long s = in-length bitsPerRow (s .args .t1 .n) (s .args .held .key)
+long s = in-length bitsPerRow (s .args .t1 .n) (numberOf (s .args .held .key))
 
 -- what is read of x's table is small
 small-own : (s : tie.Start Inv-loop μ-loop) → Small (s .args .t1) (s .args .t3) (s .args .x .table)
@@ -137,7 +138,7 @@ low q = q .before .before
 own : (q : tie.After-row-of Inv-loop μ-loop) → at (set-of (begin (low q))) (low q .lowest .result) ≡ q .row-of .result
 own q =
     let s = begin (low q) in
-    in-at bitsPerRow (s .args .t1 .n) (s .args .held .key) _ (turn (low q)) ∙ sym (q .row-of .ensures)
+    in-at bitsPerRow (s .args .t1 .n) (numberOf (s .args .held .key)) _ (turn (low q)) ∙ sym (q .row-of .ensures)
 
 there : (q : tie.After-row-of Inv-loop μ-loop) → There (begin (low q) .args .t1) (low q .lowest .result) (q .row-of .result)
 there q =

@@ -11,6 +11,7 @@ use Rattle.laws.proofs.TestLaws.{and-split}
 use Rattle.words.specs.Words.{bitOf}
 use Rattle.words.proofs.WordLaws.{bit-and, less-lt, less-bit}
 use Rattle.keys.specs.Keys.{bitsPerRow}
+use Rattle.keys.specs.TwoWords.{numberOf}
 use Rattle.keys.proofs.SetLaws.{in-length}
 use Rattle.tables.proofs.CatalogueLaws.{one-shl}
 use Rattle.disjunction.specs.Sets.{at}
@@ -26,7 +27,7 @@ use Rattle.sets.proofs.piece_of.Statement.{statement}
 use Rattle.sets.proofs.piece_of.Tie as tie
 
 abbrev Inv-loop : tie.InvT-loop
-Inv-loop all cat table left₀ reach₀ left reach = Joining cat (setOf cat (all .key)) (rowIn (setOf cat (all .key)) table) left reach
+Inv-loop all cat table left₀ reach₀ left reach = Joining cat (setOf cat (numberOf (all .key))) (rowIn (setOf cat (numberOf (all .key))) table) left reach
 
 abbrev μ-loop : tie.MeasureT-loop
 μ-loop all cat table left₀ reach₀ left reach = left
@@ -39,11 +40,11 @@ has s = tables-of _ _ (s .pre .2 .tables) _ (rw (s .pre .3) (s .pre .1 .low))
 bit : (s : tie.Start Inv-loop μ-loop) → 1 * 2 ^ s .args .x .table % 2 ^ 64 ≡ 2 ^ s .args .x .table
 bit s = one-shl _ (omega (arith, s .pre .1 .table, s .pre .0 .tables))
 
-long : (s : tie.Start Inv-loop μ-loop) → length (setOf (s .args .t1) (s .args .all .key)) ≡ s .args .t1 .n
-long s = in-length bitsPerRow (s .args .t1 .n) (s .args .all .key)
+long : (s : tie.Start Inv-loop μ-loop) → length (setOf (s .args .t1) (numberOf (s .args .all .key))) ≡ s .args .t1 .n
+long s = in-length bitsPerRow (s .args .t1 .n) (numberOf (s .args .all .key))
 
 -- x is there, as the set has it
-there : (s : tie.Start Inv-loop μ-loop) → There (s .args .t1) (s .args .x .table) (at (setOf (s .args .t1) (s .args .all .key)) (s .args .x .table))
+there : (s : tie.Start Inv-loop μ-loop) → There (s .args .t1) (s .args .x .table) (at (setOf (s .args .t1) (numberOf (s .args .all .key))) (s .args .x .table))
 there s = rw (s .pre .3) (s .pre .1)
 
 shl-left : tie.Need-shl-left Inv-loop μ-loop
@@ -64,7 +65,7 @@ cast-reach c = let s = c .before .before in omega (arith, mask-small (s .args .t
 loop-holds : tie.Need-loop-holds Inv-loop μ-loop
 loop-holds c =
     let s = c .before .before in
-    join-start _ _ (s .pre .0) (setOf (s .args .t1) (s .args .all .key)) (long s) _ (there s) refl _ (s .pre .2 .tables) _ (bit s)
+    join-start _ _ (s .pre .0) (setOf (s .args .t1) (numberOf (s .args .all .key))) (long s) _ (there s) refl _ (s .pre .2 .tables) _ (bit s)
 
 lowest-requires : tie.Need-lowest-requires Inv-loop μ-loop
 lowest-requires c κs = omega (arith, c .loop-test .taken)
@@ -83,7 +84,7 @@ turn : (a : tie.After-lowest Inv-loop μ-loop) → a .lowest .result < start (wa
 turn a =
     let l = walk a in
     let s = start l in
-    member-table (worldOf (s .args .t1) []) (setOf (s .args .t1) (s .args .all .key)) (long s) _ (l .loop .inv .within _ (left a))
+    member-table (worldOf (s .args .t1) []) (setOf (s .args .t1) (numberOf (s .args .all .key))) (long s) _ (l .loop .inv .within _ (left a))
 
 bit-2 : (a : tie.After-lowest Inv-loop μ-loop) → 1 * 2 ^ a .lowest .result % 2 ^ 64 ≡ 2 ^ a .lowest .result
 bit-2 a = one-shl _ (omega (arith, turn a, start (walk a) .pre .0 .tables))
@@ -114,7 +115,7 @@ loop-again c =
     let a = c .before in
     let l = walk a in
     let s = start l in
-    join-next _ _ (s .pre .0) (setOf (s .args .t1) (s .args .all .key)) (long s) _ (there s) refl _ _ (l .loop .inv) _ _ (a .lowest .ensures .itself) (bit-2 a)
+    join-next _ _ (s .pre .0) (setOf (s .args .t1) (numberOf (s .args .all .key))) (long s) _ (there s) refl _ _ (l .loop .inv) _ _ (a .lowest .ensures .itself) (bit-2 a)
 
 -- what is left are tables of the set
 under : (l : tie.At-loop Inv-loop μ-loop) → Under (l .loop .left) (start l .args .all .tables)
@@ -124,7 +125,7 @@ without-requires : tie.Need-without-requires Inv-loop μ-loop
 without-requires c κs = λ u b.
     let l = c .before in
     let s = start l in
-    omega (arith, tables-lt (setOf (s .args .t1) (s .args .all .key)) _ (s .pre .2 .tables) u (under l u b), long s, s .pre .0 .tables)
+    omega (arith, tables-lt (setOf (s .args .t1) (numberOf (s .args .all .key))) _ (s .pre .2 .tables) u (under l u b), long s, s .pre .0 .tables)
 
 returns : tie.Need-returns Inv-loop μ-loop
 returns c cells =
@@ -132,7 +133,7 @@ returns c cells =
     let s = start l in
     rw (
       ← s .pre .3,
-      ← join-end _ _ (s .pre .0) (setOf (s .args .t1) (s .args .all .key)) (long s) _ (there s) refl _ _ (l .loop .inv)
+      ← join-end _ _ (s .pre .0) (setOf (s .args .t1) (numberOf (s .args .all .key))) (long s) _ (there s) refl _ _ (l .loop .inv)
           (c .before .loop-test .left) cells,
     )
     (c .without .ensures _ _ (s .pre .2) (under l))

@@ -7,10 +7,10 @@ use mathlib.Core.Logic.{⊎-elim}
 use lib.ListN.{length, getD}
 use lib.Count.{ones, ones-le}
 use Rattle.tables.specs.Catalogues.{schemeOf, countOf, firstCell}
-use Rattle.tables.proofs.CatalogueLaws.{one-shl, table-ends}
+use Rattle.tables.proofs.CatalogueLaws.{one-shl, table-ends, some-cell}
 use Rattle.walks.specs.Merged.{mergedLength}
 use Rattle.sets.specs.Promises.{RisingIn}
-use Rattle.sets.proofs.LayoutLaws.{scheme-narrow, some-cell, rising-none, rising-more}
+use Rattle.sets.proofs.LayoutLaws.{scheme-narrow, rising-none, rising-more}
 use Rattle.sets.proofs.rising_tables.Statement.{statement}
 use Rattle.sets.proofs.rising_tables.Tie as tie
 
@@ -55,7 +55,7 @@ rises-requires c κs =
     let n = scheme-narrow (s .args .t1) _ (s .pre .0) _ b in
     rw (s .pre .1 .wide _ b, s .pre .0 .places _ b) (
       ones-le mergedLength _ n,
-      omega (arith, table-ends (s .args .t1) _ b, s .pre .0 .room, some-cell (schemeOf (s .args .t1) (o .before .loop .t)) (s .pre .0 .some-scheme _ b) n),
+      omega (arith, table-ends (s .args .t1) _ b, s .pre .0 .room, some-cell 64 (schemeOf (s .args .t1) (o .before .loop .t)) n (s .pre .0 .some-scheme _ b)),
     )
 
 shl-rising : tie.Need-shl-rising Inv-loop μ-loop

@@ -5,6 +5,7 @@ use Prim.Native.Nat.{_-_, _≤_}
 use mathlib.Core.Path.{sym, _∙_}
 use mathlib.Core.Logic.{⊎-elim}
 use Rattle.keys.specs.Keys.{bitsPerRow, rowsIn}
+use Rattle.keys.specs.TwoWords.{numberOf}
 use Rattle.keys.proofs.SetLaws.{in-at, in-past}
 use Rattle.tables.proofs.CatalogueLaws.{one-shl}
 use Rattle.sets.proofs.LackingLaws.{Marked, marked-none, marked-row, marked-skip, marked-end}
@@ -12,7 +13,7 @@ use Rattle.sets.proofs.tables_in.Statement.{statement}
 use Rattle.sets.proofs.tables_in.Tie as tie
 
 abbrev Inv-loop : tie.InvT-loop
-Inv-loop key n tables₀ u₀ tables u = (u ≤ n) × Marked (rowsIn bitsPerRow n key) tables u
+Inv-loop key n tables₀ u₀ tables u = (u ≤ n) × Marked (rowsIn bitsPerRow n (numberOf key)) tables u
 
 abbrev μ-loop : tie.MeasureT-loop
 μ-loop key n tables₀ u₀ tables u = n - u
@@ -37,7 +38,7 @@ loop-again c =
     let l = c .before .before .before in
     let s = l .before in
     let b = c .before .before .loop-test .taken in
-    let own = in-at bitsPerRow (s .args .cat .n) (s .args .key) (l .loop .u) b ∙ sym (c .before .row-of .ensures) in (
+    let own = in-at bitsPerRow (s .args .cat .n) (numberOf (s .args .key)) (l .loop .u) b ∙ sym (c .before .row-of .ensures) in (
       omega (arith, b),
       ⊎-elim
           (λ w.
@@ -51,7 +52,7 @@ returns : tie.Need-returns Inv-loop μ-loop
 returns c =
     let l = c .before in
     let s = l .before in
-    marked-end _ _ (l .loop .u) (l .loop .inv .1) (λ v h. in-past bitsPerRow (s .args .cat .n) (s .args .key) v (omega (arith, h, c .loop-test .left)))
+    marked-end _ _ (l .loop .u) (l .loop .inv .1) (λ v h. in-past bitsPerRow (s .args .cat .n) (numberOf (s .args .key)) v (omega (arith, h, c .loop-test .left)))
 
 pub tables-in-spec : {M : Type 1} → statement M
 tables-in-spec =

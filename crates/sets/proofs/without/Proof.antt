@@ -5,6 +5,7 @@ use mathlib.Core.List.{List}
 use lib.Pow.{pow-pos}
 use Rattle.words.proofs.WordLaws.{less-lt}
 use Rattle.keys.specs.Keys.{bitsPerRow}
+use Rattle.keys.specs.TwoWords.{numberOf}
 use Rattle.tables.specs.declared.Catalogue.{Catalogue}
 use Rattle.walks.specs.Merged.{Under}
 use Rattle.sets.specs.Promises.{SetFor}
@@ -15,7 +16,7 @@ use Rattle.sets.proofs.without.Tie as tie
 
 abbrev Inv-loop : tie.InvT-loop
 Inv-loop held tables key₀ rest₀ key rest =
-    Under rest tables × ((cat : Catalogue) (T : List ℕ) → SetFor cat T held → Under tables (held .tables) → Leaving cat T tables key rest)
+    Under rest tables × ((cat : Catalogue) (T : List ℕ) → SetFor cat T held → Under tables (held .tables) → Leaving cat T tables (numberOf key) rest)
 
 abbrev μ-loop : tie.MeasureT-loop
 μ-loop held tables key₀ rest₀ key rest = rest
@@ -29,7 +30,7 @@ lowest-requires c κs = search needs
 with-row-requires : tie.Need-with-row-requires Inv-loop μ-loop
 with-row-requires c κs =
     let l = c .before .before in
-    (l .before .pre _ (l .loop .inv .0 _ (c .lowest .ensures .itself)), pow-pos bitsPerRow)
+    (l .before .before .pre _ (l .loop .inv .0 _ (c .lowest .ensures .itself)), pow-pos bitsPerRow)
 
 without-lowest-requires : tie.Need-without-lowest-requires Inv-loop μ-loop
 without-lowest-requires c κs = search needs

@@ -1,29 +1,29 @@
 -- `store::find` meets its contract. The loop's invariant: what a search from here says is what the whole search says. The measure is what is left of
 -- the depth. Each way that a look can go has its law in LookLaws. Assumes nothing.
 use Prim.Native.Nat.{ℕ, _+_, _-_, _≤_, _<_}
-use mathlib.Core.Bool.{Bool, false}
+use mathlib.Core.Bool.{Bool, true, false}
 use mathlib.Core.List.{List}
-use mathlib.Core.Path.{_≡_, sym, ap, _∙_}
+use mathlib.Core.Path.{_≡_, sym, ap, subst, _∙_}
 use native.Mathlib.Nat.{sub-zero}
 use native.Mathlib.Omega.{arith}
 use denote.Ref.{now}
 use lib.Dec.{eqb}
-use lib.ListN.{getD}
 use borrow.Author.Needs.{needs}
 use Rattle.words.specs.Words.{bitOf}
-use Rattle.store.specs.Store.{Store, storeIn, linkOf, walkIn, searchOf}
+use Rattle.keys.specs.TwoWords.{numberOf}
+use Rattle.store.specs.Store.{Store, storeIn, keyAt, linkOf, walkIn, searchOf}
 use Rattle.store.specs.declared.Looked.the-variants.{Absent}
 use Rattle.store.proofs.LookLaws.{walk-hit, walk-last, walk-absent, walk-past, walk-on}
 use Rattle.store.proofs.find.Statement.{statement}
 use Rattle.store.proofs.find.Tie as tie
 
 abbrev Inv-loop : tie.InvT-loop
-Inv-loop keys left right found sought deepest p₀ d₀ p d =
+Inv-loop low high left right found sought deepest p₀ d₀ p d =
     (p < found) × (d ≤ deepest)
-    × (searchOf (storeIn keys left right found) sought deepest ≡ walkIn (storeIn keys left right found) sought (deepest - d) d p)
+    × (searchOf (storeIn low high left right found) (numberOf sought) deepest ≡ walkIn (storeIn low high left right found) (numberOf sought) (deepest - d) d p)
 
 abbrev μ-loop : tie.MeasureT-loop
-μ-loop keys left right found sought deepest p₀ d₀ p d = deepest - d
+μ-loop low high left right found sought deepest p₀ d₀ p d = deepest - d
 
 -- ---- what is known at a look
 
@@ -31,19 +31,22 @@ abbrev Look : Type 0
 Look = tie.At-loop Inv-loop μ-loop
 
 abbrev store : Look → Store
-store a = let g = a .before .before .before .before .args in storeIn (now (g .keys)) (now (g .left)) (now (g .right)) (g .found)
+store a = let g = a .before .before .before .before .before .args in storeIn (now (g .low)) (now (g .high)) (now (g .left)) (now (g .right)) (g .found)
 
 abbrev sought : Look → ℕ
-sought a = a .before .before .before .before .args .sought
+sought a = numberOf (a .before .before .before .before .before .args .sought)
 
 abbrev deepest : Look → ℕ
-deepest a = a .before .before .before .before .args .deepest
+deepest a = a .before .before .before .before .before .args .deepest
 
 -- The link on the side of the sought key's bit.
 abbrev link : Look → ℕ
 link a = linkOf (store a .left) (store a .right) (bitOf (sought a) (a .loop .d)) (a .loop .p)
 
-missed : (c : tie.Else1 Inv-loop μ-loop) → eqb (getD (store (c .before .before) .keys) (c .before .before .loop .p) 0) (sought (c .before .before)) ≡ false
+met : (c : tie.Then1 Inv-loop μ-loop) → eqb (keyAt (store (c .before .before)) (c .before .before .loop .p)) (sought (c .before .before)) ≡ true
+met c = sym (c .before .is-key .ensures) ∙ c .if1 .taken
+
+missed : (c : tie.Else1 Inv-loop μ-loop) → eqb (keyAt (store (c .before .before)) (c .before .before .loop .p)) (sought (c .before .before)) ≡ false
 missed c = sym (c .before .is-key .ensures) ∙ c .if1 .left
 
 bits-left : (c : tie.Else2 Inv-loop μ-loop) → 0 < deepest (c .before .before .before) - c .before .before .before .loop .d
@@ -55,6 +58,9 @@ side l r p e = rw e
 linked : (c : tie.After-link-of Inv-loop μ-loop) → c .link-of .result ≡ link (c .before .before .before .before .before)
 linked c = c .link-of .ensures ∙ side _ _ _ (c .before .bit-of .ensures)
 
+one-less : (l found : ℕ) → (l ≡ 0 → ⊥) → l ≤ found → l - 1 < found
+one-less l found n h = omega (arith, n)
+
 -- ---- the needs
 
 loop-holds : tie.Need-loop-holds Inv-loop μ-loop
@@ -62,7 +68,7 @@ unfolding searchOf
 loop-holds c = (search needs, search needs, rw sub-zero)
 
 returns : tie.Need-returns Inv-loop μ-loop
-returns c = let a = c .before .before in sym (a .loop .inv .2 ∙ walk-hit _ _ _ _ _ _ _ (sym (c .before .is-key .ensures) ∙ c .if1 .taken))
+returns c = let a = c .before .before in sym (a .loop .inv .2 ∙ walk-hit _ _ _ _ _ _ _ (met c))
 
 returns-2 : tie.Need-returns-2 Inv-loop μ-loop
 returns-2 c =
@@ -98,7 +104,8 @@ loop-again c =
     let w =
     a .loop .inv .2
     ∙ walk-on _ _ _ _ (deepest a - a .loop .d) (deepest a - (a .loop .d + 1)) _ _ (omega (arith, bits-left t)) (missed (t .before)) n u in
-    (search needs, search needs, w ∙ ap (λ (x : ℕ). walkIn (store a) (sought a) (deepest a - (a .loop .d + 1)) (a .loop .d + 1) (x - 1)) (sym (linked l)))
+    let e = ap (λ (x : ℕ). walkIn (store a) (sought a) (deepest a - (a .loop .d + 1)) (a .loop .d + 1) (x - 1)) (sym (linked l)) in
+    (subst (λ (x : ℕ). x - 1 < store a .found) (sym (linked l)) (one-less (link a) (store a .found) n u), search needs, w ∙ e)
 
 pub find-spec : {M : Type 1} → statement M
 find-spec =

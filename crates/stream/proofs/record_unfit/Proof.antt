@@ -17,31 +17,31 @@ room-requires c κs = search needs
 
 returns : tie.Need-returns
 returns c =
-    let a = c .before .before .before .before .before .before .before .args in
+    let a = c .before .before .before .before .before .before .before .before .args in
     let t = c .before .before .before .total-rows .ensures in
     let r = c .before .before .room .ensures in
     sym (unfit-met _ _ (λ g. omega (arith, t, r, g .room, c .if1 .taken)))
 
 returns-2 : tie.Need-returns-2
 returns-2 c =
-    let a = c .before .before .before .before .before .before .before .before .before .args in
+    let a = c .before .before .before .before .before .before .before .before .before .before .args in
     let t = c .before .before .before .before .before .total-rows .ensures in
     let r = c .before .before .before .before .room .ensures in
     sym (unfit-met _ _ (λ g. omega (arith, t, r, g .taken, c .if2 .taken)))
 
 returns-3 : tie.Need-returns-3
 returns-3 c =
-    let a = c .before .before .before .before .before .before .before .before .before .before .before .args in
+    let a = c .before .before .before .before .before .before .before .before .before .before .before .before .args in
     let t = c .before .before .before .before .before .before .before .total-rows .ensures in
     let r = c .before .before .before .before .before .before .room .ensures in
     sym (unfit-met _ _ (λ g. omega (arith, t, r, g .next, c .if3 .taken)))
 
 returns-4 : tie.Need-returns-4
 returns-4 c =
-    let a = c .before .before .before .before .before .before .before .before .before .before .before .before .before .before .args in
+    let a = c .before .before .before .before .before .before .before .before .before .before .before .before .before .before .before .args in
     let t = c .before .before .before .before .before .before .before .before .before .before .total-rows .ensures in
     let r = c .before .before .before .before .before .before .before .before .before .room .ensures in
-    let f : Fit (a .cat) (stateOf (a .s) (a .keys .now) (a .left .now) (a .right .now)) =
+    let f : Fit (a .cat) (stateOf (a .s) (a .low .now) (a .high .now) (a .left .now) (a .right .now)) =
     record {
       room = omega (arith, r, c .before .before .before .before .before .before .before .if1 .left);
       taken = c .before .before .before .before .before .if2 .left;
@@ -55,24 +55,24 @@ returns-4 c =
 
 returns-5 : tie.Need-returns-5
 returns-5 c =
-    let a = c .before .before .before .before .before .before .before .before .before .before .before .before .before .before .args in
+    let a = c .before .before .before .before .before .before .before .before .before .before .before .before .before .before .before .args in
     let t = c .before .before .before .before .before .before .before .before .before .before .total-rows .ensures in
     let r = c .before .before .before .before .before .before .before .before .before .room .ensures in
     sym (unfit-met _ _ (λ g. omega (arith, t, r, g .none (sym t ∙ c .before .before .if4 .taken), c .if5 .left)))
 
 returns-6 : tie.Need-returns-6
 returns-6 c =
-    let a = c .before .before .before .before .before .before .before .before .before .before .before .before .before .before .args in
+    let a = c .before .before .before .before .before .before .before .before .before .before .before .before .before .before .before .args in
     let t = c .before .before .before .before .before .before .before .before .before .before .total-rows .ensures in
     let r = c .before .before .before .before .before .before .before .before .before .room .ensures in
     sym (unfit-met _ _ (λ g. omega (arith, t, r, g .some (omega (arith, t, c .before .before .if4 .left)), c .if6 .taken)))
 
 returns-7 : tie.Need-returns-7
 returns-7 c =
-    let a = c .before .before .before .before .before .before .before .before .before .before .before .before .before .before .before .before .before .before .args in
+    let a = c .before .before .before .before .before .before .before .before .before .before .before .before .before .before .before .before .before .before .before .args in
     let t = c .before .before .before .before .before .before .before .before .before .before .before .before .before .before .total-rows .ensures in
     let r = c .before .before .before .before .before .before .before .before .before .before .before .before .before .room .ensures in
-    let f : Fit (a .cat) (stateOf (a .s) (a .keys .now) (a .left .now) (a .right .now)) =
+    let f : Fit (a .cat) (stateOf (a .s) (a .low .now) (a .high .now) (a .left .now) (a .right .now)) =
     record {
       room = omega (arith, r, c .before .before .before .before .before .before .before .before .before .before .before .if1 .left);
       taken = c .before .before .before .before .before .before .before .before .before .if2 .left;
@@ -86,17 +86,17 @@ returns-7 c =
 
 returns-8 : tie.Need-returns-8
 returns-8 c =
-    let a = c .before .before .before .before .before .before .before .before .before .before .before .before .before .before .before .before .before .before .args in
+    let a = c .before .before .before .before .before .before .before .before .before .before .before .before .before .before .before .before .before .before .before .args in
     let t = c .before .before .before .before .before .before .before .before .before .before .before .before .before .before .total-rows .ensures in
     let r = c .before .before .before .before .before .before .before .before .before .before .before .before .before .room .ensures in
     sym (unfit-met _ _ (λ g. omega (arith, t, r, g .begun (c .before .before .if7 .taken), c .if8 .left)))
 
 returns-9 : tie.Need-returns-9
 returns-9 c =
-    let a = c .before .before .before .before .before .before .before .before .before .before .before .before .before .before .before .before .args in
+    let a = c .before .before .before .before .before .before .before .before .before .before .before .before .before .before .before .before .before .args in
     let t = c .before .before .before .before .before .before .before .before .before .before .before .before .total-rows .ensures in
     let r = c .before .before .before .before .before .before .before .before .before .before .before .room .ensures in
-    let f : Fit (a .cat) (stateOf (a .s) (a .keys .now) (a .left .now) (a .right .now)) =
+    let f : Fit (a .cat) (stateOf (a .s) (a .low .now) (a .high .now) (a .left .now) (a .right .now)) =
     record {
       room = omega (arith, r, c .before .before .before .before .before .before .before .before .before .if1 .left);
       taken = c .before .before .before .before .before .before .before .if2 .left;

@@ -16,26 +16,20 @@ use Rattle.abi.proofs.streams.harbour_next.Tie as tie
 
 -- The stations: where the call has answered, and where the words were seen to be enough.
 abbrev at-step : tie.After-put-record-arg → tie.After-step
-at-step c = c .before .before .before .before .before .before .before .before .before .before
+at-step c = c .before .before .before .before .before .before .before .before .before .before .before .before
 
 abbrev at-else : tie.After-step → tie.Else1
-at-else c = c .before .before .before .before .before .before .before .before
+at-else c = c .before .before .before .before .before .before .before .before .before
 
 enough : (c : tie.Else1)
-    → nextShort recordWords (now (c .before .before .before .before .before .before .before .before .before .before .before .before .args .catalogue)) (now (c .before .before .before .before .before .before .before .before .before .before .before .before .args .words)) (now (c .before .before .before .before .before .before .before .before .before .before .before .before .args .result)) ≡ false
+    → nextShort recordWords (now (c .before .before .before .before .before .before .before .before .before .before .before .before .before .args .catalogue)) (now (c .before .before .before .before .before .before .before .before .before .before .before .before .before .args .words)) (now (c .before .before .before .before .before .before .before .before .before .before .before .before .before .args .result)) ≡ false
 enough c = sym (c .before .next-short .ensures) ∙ c .if1 .left
 
 next-short-requires : tie.Need-next-short-requires
 next-short-requires c κs = search needs
 
-same-length : tie.Need-same-length
-same-length c = search needs
-
-same-length-2 : tie.Need-same-length-2
-same-length-2 c = search needs
-
 returns : tie.Need-returns
-returns c = next-short _ _ _ _ _ _ _ _ (sym (c .before .next-short .ensures) ∙ c .if1 .taken)
+returns c = next-short _ _ _ _ _ _ _ _ _ (sym (c .before .next-short .ensures) ∙ c .if1 .taken)
 
 catalogue-in-requires : tie.Need-catalogue-in-requires
 catalogue-in-requires c κs = next-enough recordWords _ _ _ (enough c) .0
@@ -55,35 +49,17 @@ put-result-requires c κs = next-enough recordWords _ _ _ (enough (at-else (at-s
 number-of-requires : tie.Need-number-of-requires
 number-of-requires c κs = search needs
 
-same-length-3 : tie.Need-same-length-3
-same-length-3 c = search needs
-
-same-length-4 : tie.Need-same-length-4
-same-length-4 c = search needs
-
-same-length-5 : tie.Need-same-length-5
-same-length-5 c = search needs
-
-same-length-6 : tie.Need-same-length-6
-same-length-6 c = search needs
-
-same-length-7 : tie.Need-same-length-7
-same-length-7 c = search needs
-
-same-length-8 : tie.Need-same-length-8
-same-length-8 c = search needs
-
 returns-2 : tie.Need-returns-2
 returns-2 c =
     let o = at-step (c .before .before .before .before .before .before .before .before) in
-    let a = at-else o .before .before .before .before .before .before .before .before .before .before .before .before .args in
-    let s = o .before .before .before .before .before .record-in in
+    let a = at-else o .before .before .before .before .before .before .before .before .before .before .before .before .before .args in
+    let s = o .before .before .before .before .before .before .record-in in
     let r = o .step .result in
-    next-done _ _ _ _ _ _ _ _ everySet r _ _ _ _ _ _ _ (enough (at-else o))
+    next-done _ _ _ _ _ _ _ _ _ everySet r _ _ _ _ _ _ _ _ (enough (at-else o))
     (o .step .ensures
-    ∙ ap (λ (x : Catalogue). call x (a .cells .now) (a .budget) (stateOf (s .result) (a .keys .now) (a .left .now) (a .right .now)) (a .padded .now))
-    (o .before .before .before .before .before .before .before .catalogue-in .ensures)
-    ∙ ap (λ (x : StreamRecord). call (catalogueIn (a .catalogue .now)) (a .cells .now) (a .budget) (stateOf x (a .keys .now) (a .left .now) (a .right .now)) (a .padded .now))
+    ∙ ap (λ (x : Catalogue). call x (a .cells .now) (a .budget) (stateOf (s .result) (a .low .now) (a .high .now) (a .left .now) (a .right .now)) (a .padded .now))
+    (o .before .before .before .before .before .before .before .before .catalogue-in .ensures)
+    ∙ ap (λ (x : StreamRecord). call (catalogueIn (a .catalogue .now)) (a .cells .now) (a .budget) (stateOf x (a .low .now) (a .high .now) (a .left .now) (a .right .now)) (a .padded .now))
     (s .ensures))
     (c .number-of .ensures) (c .before .before .before .before .before .before .before .put-record .ensures) (c .before .before .before .put-result .ensures)
 
@@ -92,8 +68,8 @@ harbour-next-spec =
     tie.close
     (tie.spec
     next-short-requires
-    same-length
-    same-length-2
+    (λ c. search needs)
+    (λ c. search needs)
     returns
     catalogue-in-requires
     record-in-requires
@@ -101,10 +77,11 @@ harbour-next-spec =
     put-record-requires
     put-result-requires
     number-of-requires
-    same-length-3
-    same-length-4
-    same-length-5
-    same-length-6
-    same-length-7
-    same-length-8
+    (λ c. search needs)
+    (λ c. search needs)
+    (λ c. search needs)
+    (λ c. search needs)
+    (λ c. search needs)
+    (λ c. search needs)
+    (λ c. search needs)
     returns-2)

@@ -15,26 +15,20 @@ use Rattle.abi.proofs.streams.harbour_next_holding.Tie as tie
 
 -- The stations: where the call has answered, and where the words were seen to be enough.
 abbrev at-step : tie.After-put-holding-arg → tie.After-step-holding
-at-step c = c .before .before .before .before .before .before .before .before .before .before
+at-step c = c .before .before .before .before .before .before .before .before .before .before .before .before
 
 abbrev at-else : tie.After-step-holding → tie.Else1
-at-else c = c .before .before .before .before .before .before .before .before
+at-else c = c .before .before .before .before .before .before .before .before .before
 
 enough : (c : tie.Else1)
-    → nextShort holdingWords (now (c .before .before .before .before .before .before .before .before .before .before .before .before .args .catalogue)) (now (c .before .before .before .before .before .before .before .before .before .before .before .before .args .words)) (now (c .before .before .before .before .before .before .before .before .before .before .before .before .args .result)) ≡ false
+    → nextShort holdingWords (now (c .before .before .before .before .before .before .before .before .before .before .before .before .before .args .catalogue)) (now (c .before .before .before .before .before .before .before .before .before .before .before .before .before .args .words)) (now (c .before .before .before .before .before .before .before .before .before .before .before .before .before .args .result)) ≡ false
 enough c = sym (c .before .next-short .ensures) ∙ c .if1 .left
 
 next-short-requires : tie.Need-next-short-requires
 next-short-requires c κs = search needs
 
-same-length : tie.Need-same-length
-same-length c = search needs
-
-same-length-2 : tie.Need-same-length-2
-same-length-2 c = search needs
-
 returns : tie.Need-returns
-returns c = next-short _ _ _ _ _ _ _ _ (sym (c .before .next-short .ensures) ∙ c .if1 .taken)
+returns c = next-short _ _ _ _ _ _ _ _ _ (sym (c .before .next-short .ensures) ∙ c .if1 .taken)
 
 catalogue-in-requires : tie.Need-catalogue-in-requires
 catalogue-in-requires c κs = next-enough holdingWords _ _ _ (enough c) .0
@@ -54,35 +48,17 @@ put-result-requires c κs = next-enough holdingWords _ _ _ (enough (at-else (at-
 number-of-requires : tie.Need-number-of-requires
 number-of-requires c κs = search needs
 
-same-length-3 : tie.Need-same-length-3
-same-length-3 c = search needs
-
-same-length-4 : tie.Need-same-length-4
-same-length-4 c = search needs
-
-same-length-5 : tie.Need-same-length-5
-same-length-5 c = search needs
-
-same-length-6 : tie.Need-same-length-6
-same-length-6 c = search needs
-
-same-length-7 : tie.Need-same-length-7
-same-length-7 c = search needs
-
-same-length-8 : tie.Need-same-length-8
-same-length-8 c = search needs
-
 returns-2 : tie.Need-returns-2
 returns-2 c =
     let o = at-step (c .before .before .before .before .before .before .before .before) in
-    let a = at-else o .before .before .before .before .before .before .before .before .before .before .before .before .args in
-    let s = o .before .before .before .before .before .holding-in in
+    let a = at-else o .before .before .before .before .before .before .before .before .before .before .before .before .before .args in
+    let s = o .before .before .before .before .before .before .holding-in in
     let r = o .step-holding .result in
-    next-done _ _ _ _ _ _ _ _ (heldBy (r .stream)) (record { answer = r .answer; key = r .key; trials = r .trials; tests = r .tests; looks = r .looks; stream = r .stream .stream }) _ _ _ _ _ _ _ (enough (at-else o))
+    next-done _ _ _ _ _ _ _ _ _ (heldBy (r .stream)) (record { answer = r .answer; key = r .key; trials = r .trials; tests = r .tests; looks = r .looks; stream = r .stream .stream }) _ _ _ _ _ _ _ _ (enough (at-else o))
     (o .step-holding .ensures
-    ∙ ap (λ (x : Catalogue). call x (a .cells .now) (a .budget) (holdingStateOf (s .result) (a .keys .now) (a .left .now) (a .right .now)) (a .padded .now))
-    (o .before .before .before .before .before .before .before .catalogue-in .ensures)
-    ∙ ap (λ (x : HoldingRecord). call (catalogueIn (a .catalogue .now)) (a .cells .now) (a .budget) (holdingStateOf x (a .keys .now) (a .left .now) (a .right .now)) (a .padded .now))
+    ∙ ap (λ (x : Catalogue). call x (a .cells .now) (a .budget) (holdingStateOf (s .result) (a .low .now) (a .high .now) (a .left .now) (a .right .now)) (a .padded .now))
+    (o .before .before .before .before .before .before .before .before .catalogue-in .ensures)
+    ∙ ap (λ (x : HoldingRecord). call (catalogueIn (a .catalogue .now)) (a .cells .now) (a .budget) (holdingStateOf x (a .low .now) (a .high .now) (a .left .now) (a .right .now)) (a .padded .now))
     (s .ensures))
     (c .number-of .ensures) (c .before .before .before .before .before .before .before .put-holding .ensures) (c .before .before .before .put-result .ensures)
 
@@ -91,8 +67,8 @@ harbour-next-holding-spec =
     tie.close
     (tie.spec
     next-short-requires
-    same-length
-    same-length-2
+    (λ c. search needs)
+    (λ c. search needs)
     returns
     catalogue-in-requires
     holding-in-requires
@@ -100,10 +76,11 @@ harbour-next-holding-spec =
     put-holding-requires
     put-result-requires
     number-of-requires
-    same-length-3
-    same-length-4
-    same-length-5
-    same-length-6
-    same-length-7
-    same-length-8
+    (λ c. search needs)
+    (λ c. search needs)
+    (λ c. search needs)
+    (λ c. search needs)
+    (λ c. search needs)
+    (λ c. search needs)
+    (λ c. search needs)
     returns-2)

@@ -14,32 +14,29 @@ use Rattle.abi.proofs.streams.harbour_open_holding.Statement.{statement
 use Rattle.abi.proofs.streams.harbour_open_holding.Tie as tie
 
 -- The stations: where the record is put, where open has answered, and where the words were seen to be enough.
-abbrev at-put : tie.After-slice-known8 → tie.After-put-holding
+abbrev at-put : tie.After-slice-known10 → tie.After-put-holding
 at-put c = c .before .before
 
-abbrev at-open : tie.After-slice-known8 → tie.After-open-holding
-at-open c = c .before .before .before .before .before .before .before .before .before .before .before
+abbrev at-open : tie.After-slice-known10 → tie.After-open-holding
+at-open c = c .before .before .before .before .before .before .before .before .before .before .before .before .before
 
 abbrev at-else : tie.After-open-holding → tie.Else1
-at-else c = c .before .before .before .before .before
+at-else c = c .before .before .before .before .before .before
 
-enough : (c : tie.Else1) → openShort holdingWords (now (c .before .before .before .before .before .before .before .before .before .args .catalogue)) (now (c .before .before .before .before .before .before .before .before .before .args .words)) ≡ false
+enough : (c : tie.Else1) → openShort holdingWords (now (c .before .before .before .before .before .before .before .before .before .before .args .catalogue)) (now (c .before .before .before .before .before .before .before .before .before .before .args .words)) ≡ false
 enough c = sym (c .before .open-short .ensures) ∙ c .if1 .left
 
 -- What is answered fits a word.
 low : (c : tie.After-open-holding) → c .open-holding .result .tests * 32 + c .open-holding .result .refusal < 18446744073709551616
 low c =
     let h : c .open-holding .result .refusal < 18446744073709551616 = search needs in
-    opened-low _ _ _ _ _ _ _ 18446744073709551616 (c .open-holding .ensures) (omega arith) h
+    opened-low _ _ _ _ _ _ _ _ 18446744073709551616 (c .open-holding .ensures) (omega arith) h
 
 open-short-requires : tie.Need-open-short-requires
 open-short-requires c κs = search needs
 
-same-length : tie.Need-same-length
-same-length c = search needs
-
 returns : tie.Need-returns
-returns c = open-short _ _ _ _ _ _ (sym (c .before .open-short .ensures) ∙ c .if1 .taken)
+returns c = open-short _ _ _ _ _ _ _ (sym (c .before .open-short .ensures) ∙ c .if1 .taken)
 
 catalogue-in-requires : tie.Need-catalogue-in-requires
 catalogue-in-requires c κs = open-enough holdingWords _ _ (enough c) .0
@@ -48,7 +45,7 @@ open-holding-requires : tie.Need-open-holding-requires
 open-holding-requires c κs = search needs
 
 put-holding-requires : tie.Need-put-holding-requires
-put-holding-requires c κs = open-enough holdingWords _ _ (enough (at-else (c .before .before .before .before .before .before .before .before))) .1
+put-holding-requires c κs = open-enough holdingWords _ _ (enough (at-else (c .before .before .before .before .before .before .before .before .before .before))) .1
 
 mul-result : tie.Need-mul-result
 mul-result c = omega (arith, low (at-open c))
@@ -56,25 +53,13 @@ mul-result c = omega (arith, low (at-open c))
 add-result : tie.Need-add-result
 add-result c = omega (arith, low (at-open c))
 
-same-length-2 : tie.Need-same-length-2
-same-length-2 c = search needs
-
-same-length-3 : tie.Need-same-length-3
-same-length-3 c = search needs
-
-same-length-4 : tie.Need-same-length-4
-same-length-4 c = search needs
-
-same-length-5 : tie.Need-same-length-5
-same-length-5 c = search needs
-
 returns-2 : tie.Need-returns-2
 returns-2 c =
     let o = at-open c in
-    let a = at-else o .before .before .before .before .before .before .before .before .before .args in
+    let a = at-else o .before .before .before .before .before .before .before .before .before .before .args in
     let r = o .open-holding .result in
-    open-done _ _ _ _ _ _ (heldBy (r .stream)) (record { refusal = r .refusal; stream = r .stream .stream; tests = r .tests }) _ _ _ _ _ (enough (at-else o))
-    (o .open-holding .ensures ∙ ap (λ (x : Catalogue). openingHolding x (a .cells .now) (record { table = a .table; row = a .row }) (a .keys .now) (a .left .now) (a .right .now)) (o .before .before .before .before .catalogue-in .ensures))
+    open-done _ _ _ _ _ _ _ (heldBy (r .stream)) (record { refusal = r .refusal; stream = r .stream .stream; tests = r .tests }) _ _ _ _ _ _ (enough (at-else o))
+    (o .open-holding .ensures ∙ ap (λ (x : Catalogue). openingHolding x (a .cells .now) (record { table = a .table; row = a .row }) (a .low .now) (a .high .now) (a .left .now) (a .right .now)) (o .before .before .before .before .before .catalogue-in .ensures))
     refl (at-put c .put-holding .ensures)
 
 pub harbour-open-holding-spec : {M : Type 1} → statement M
@@ -82,15 +67,16 @@ harbour-open-holding-spec =
     tie.close
     (tie.spec
     open-short-requires
-    same-length
+    (λ c. search needs)
     returns
     catalogue-in-requires
     open-holding-requires
     put-holding-requires
     mul-result
     add-result
-    same-length-2
-    same-length-3
-    same-length-4
-    same-length-5
+    (λ c. search needs)
+    (λ c. search needs)
+    (λ c. search needs)
+    (λ c. search needs)
+    (λ c. search needs)
     returns-2)

@@ -20,45 +20,21 @@ put-refusal-requires c κs = search needs
 ended-requires : tie.Need-ended-requires
 ended-requires c κs = search needs
 
-same-length : tie.Need-same-length
-same-length c = search needs
-
-same-length-2 : tie.Need-same-length-2
-same-length-2 c = search needs
-
-same-length-3 : tie.Need-same-length-3
-same-length-3 c = search needs
-
-same-length-4 : tie.Need-same-length-4
-same-length-4 c = search needs
-
 returns : tie.Need-returns
 returns c =
-    let s = c .before .before .before .before .before .before .before .before .before .before .before .before .before .before .before .before .before .before .before .before .before .before .before .before .before in
-    let o = c .before .before .before .before .before .before .before .before .before .before .before .before .before .before .before .open-for in
-    refused-gives (s .args .scope) (s .args .cat) (s .args .cells .now) _ _ _ (o .result) (c .ended .result) (rw (s .pre .2, s .pre .3, s .pre .4) at (o .ensures)) (omega (arith, c .before .before .before .before .before .if1 .taken)) (s .pre .5) (c .ended .ensures .0) (c .ended .ensures .1) (c .before .before .before .put-refusal .ensures)
+    let s = c .before .before .before .before .before .before .before .before .before .before .before .before .before .before .before .before .before .before .before .before .before .before .before .before .before .before .before .before .before in
+    let o = c .before .before .before .before .before .before .before .before .before .before .before .before .before .before .before .before .before .open-for in
+    refused-gives (s .args .scope) (s .args .cat) (s .args .cells .now) _ _ _ _ (o .result) (c .ended .result) (rw (s .pre .2, s .pre .3, s .pre .4, s .pre .5) at (o .ensures)) (omega (arith, c .before .before .before .before .before .if1 .taken)) (s .pre .6) (c .ended .ensures .0) (c .ended .ensures .1) (c .before .before .before .put-refusal .ensures)
 
 put-tables-requires : tie.Need-put-tables-requires
 put-tables-requires c κs = search needs
 
-same-length-5 : tie.Need-same-length-5
-same-length-5 c = search needs
-
-same-length-6 : tie.Need-same-length-6
-same-length-6 c = search needs
-
-same-length-7 : tie.Need-same-length-7
-same-length-7 c = search needs
-
-same-length-8 : tie.Need-same-length-8
-same-length-8 c = search needs
-
 returns-2 : tie.Need-returns-2
 returns-2 c =
-    let s = c .before .before .before .before .before .before .before .before .before .before .before .before .before .before .before .before .before .before .before .before .before .before .before .before in
-    let o = c .before .before .before .before .before .before .before .before .before .before .before .before .before .before .open-for in
-    let t = rw (c .before .before .before .before .before .before .before .before .before .before .before .before .before .before .before .before .before .before .total-rows .ensures) at (c .before .before .put-tables .ensures) in
-    open-gives (s .args .scope) (s .args .cat) (s .args .cells .now) _ _ _ (o .result) (s .pre .0) (s .pre .1) (rw (s .pre .2, s .pre .3, s .pre .4) at (o .ensures)) (omega (arith, c .before .before .before .before .if1 .left)) (s .pre .5) t
+    let s = c .before .before .before .before .before .before .before .before .before .before .before .before .before .before .before .before .before .before .before .before .before .before .before .before .before .before .before .before in
+    let o = c .before .before .before .before .before .before .before .before .before .before .before .before .before .before .before .before .open-for in
+    let t = rw (c .before .before .before .before .before .before .before .before .before .before .before .before .before .before .before .before .before .before .before .before .before .total-rows .ensures) at (c .before .before .put-tables .ensures) in
+    open-gives (s .args .scope) (s .args .cat) (s .args .cells .now) _ _ _ _ (o .result) (s .pre .0) (s .pre .1) (rw (s .pre .2, s .pre .3, s .pre .4, s .pre .5) at (o .ensures)) (omega (arith, c .before .before .before .before .if1 .left)) (s .pre .6) t
 
 pub open-list-spec : {M : Type 1} → statement M
 open-list-spec =
@@ -68,14 +44,16 @@ open-list-spec =
     open-for-requires
     put-refusal-requires
     ended-requires
-    same-length
-    same-length-2
-    same-length-3
-    same-length-4
+    (λ c. search needs)
+    (λ c. search needs)
+    (λ c. search needs)
+    (λ c. search needs)
+    (λ c. search needs)
     returns
     put-tables-requires
-    same-length-5
-    same-length-6
-    same-length-7
-    same-length-8
+    (λ c. search needs)
+    (λ c. search needs)
+    (λ c. search needs)
+    (λ c. search needs)
+    (λ c. search needs)
     returns-2)

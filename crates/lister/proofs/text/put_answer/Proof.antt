@@ -28,23 +28,14 @@ enum-known-answer c = search needs
 put-refused-requires : tie.Need-put-refused-requires
 put-refused-requires c κs = search needs
 
-same-length : tie.Need-same-length
-same-length c = search needs
-
 returns : tie.Need-returns
 returns c = rw (c .before .before .before .before .enum-told .given .1) (c .before .before .put-set .ensures)
-
-same-length-2 : tie.Need-same-length-2
-same-length-2 c = search needs
 
 returns-2 : tie.Need-returns-2
 returns-2 c = rw (c .before .before .before .before .enum-told2 .given .1) (c .before .before .put-end .ensures)
 
 returns-3 : tie.Need-returns-3
 returns-3 c = rw (c .enum-told3 .given .1) (nothing _ _)
-
-same-length-3 : tie.Need-same-length-3
-same-length-3 c = search needs
 
 returns-4 : tie.Need-returns-4
 returns-4 c = rw (c .before .before .before .before .before .answer .given .1) (c .before .before .put-refused .ensures)
@@ -60,10 +51,10 @@ put-answer-spec =
     enum-told-3
     enum-known-answer
     put-refused-requires
-    same-length
+    (λ c. search needs)
     returns
-    same-length-2
+    (λ c. search needs)
     returns-2
     returns-3
-    same-length-3
+    (λ c. search needs)
     returns-4)

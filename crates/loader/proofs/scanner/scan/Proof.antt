@@ -10,8 +10,8 @@ use Rattle.loader.proofs.scanner.scan.Tie as tie
 field-at-requires : tie.Need-field-at-requires
 field-at-requires c κs = search needs
 
-enum-known-i : tie.Need-enum-known-i
-enum-known-i c = search needs
+enum-known-v : tie.Need-enum-known-v
+enum-known-v c = search needs
 
 field-at-requires-2 : tie.Need-field-at-requires-2
 field-at-requires-2 c κs = search needs
@@ -51,15 +51,15 @@ refuse-requires-3 c κs = search needs
 
 returns : tie.Need-returns
 returns c =
-    c .scan-tables .ensures ∙ sym (head-good (now (c .before .before .before .before .before .before .before .before .before .before .before .before .before .before .args .s)) (c .before .before .before .before .before .before .before .before .before .before .before .before .before .before .args .room) _ _ (sym (c .before .before .before .before .before .before .before .before .before .before .before .before .field-at .ensures) ∙ c .before .before .before .before .before .before .before .before .before .before .i .given .1) _ _ (sym (c .before .before .before .before .before .before .before .before .field-at2 .ensures) ∙ c .before .before .before .before .before .before .m .given .1) _ _ (sym (c .before .before .before .before .field-at3 .ensures) ∙ c .before .before .n .given .1))
+    c .scan-tables .ensures ∙ sym (head-good (now (c .before .before .before .before .before .before .before .before .before .before .before .before .before .before .args .s)) (c .before .before .before .before .before .before .before .before .before .before .before .before .before .before .args .room) _ _ (sym (c .before .before .before .before .before .before .before .before .before .before .before .before .field-at .ensures) ∙ c .before .before .before .before .before .before .before .before .before .before .v .given .1) _ _ (sym (c .before .before .before .before .before .before .before .before .field-at2 .ensures) ∙ c .before .before .before .before .before .before .m .given .1) _ _ (sym (c .before .before .before .before .field-at3 .ensures) ∙ c .before .before .n .given .1))
 
 returns-2 : tie.Need-returns-2
 returns-2 c =
-    c .refuse .ensures ∙ sym (head-n (now (c .before .before .before .before .before .before .before .before .before .before .before .before .before .before .args .s)) (c .before .before .before .before .before .before .before .before .before .before .before .before .before .before .args .room) _ _ (sym (c .before .before .before .before .before .before .before .before .before .before .before .before .field-at .ensures) ∙ c .before .before .before .before .before .before .before .before .before .before .i .given .1) _ _ (sym (c .before .before .before .before .before .before .before .before .field-at2 .ensures) ∙ c .before .before .before .before .before .before .m .given .1) _ (sym (c .before .before .before .before .field-at3 .ensures) ∙ c .before .before .f .given .1))
+    c .refuse .ensures ∙ sym (head-n (now (c .before .before .before .before .before .before .before .before .before .before .before .before .before .before .args .s)) (c .before .before .before .before .before .before .before .before .before .before .before .before .before .before .args .room) _ _ (sym (c .before .before .before .before .before .before .before .before .before .before .before .before .field-at .ensures) ∙ c .before .before .before .before .before .before .before .before .before .before .v .given .1) _ _ (sym (c .before .before .before .before .before .before .before .before .field-at2 .ensures) ∙ c .before .before .before .before .before .before .m .given .1) _ (sym (c .before .before .before .before .field-at3 .ensures) ∙ c .before .before .f .given .1))
 
 returns-3 : tie.Need-returns-3
 returns-3 c =
-    c .refuse2 .ensures ∙ sym (head-m (now (c .before .before .before .before .before .before .before .before .before .before .args .s)) (c .before .before .before .before .before .before .before .before .before .before .args .room) _ _ (sym (c .before .before .before .before .before .before .before .before .field-at .ensures) ∙ c .before .before .before .before .before .before .i .given .1) _ (sym (c .before .before .before .before .field-at2 .ensures) ∙ c .before .before .f2 .given .1))
+    c .refuse2 .ensures ∙ sym (head-m (now (c .before .before .before .before .before .before .before .before .before .before .args .s)) (c .before .before .before .before .before .before .before .before .before .before .args .room) _ _ (sym (c .before .before .before .before .before .before .before .before .field-at .ensures) ∙ c .before .before .before .before .before .before .v .given .1) _ (sym (c .before .before .before .before .field-at2 .ensures) ∙ c .before .before .f2 .given .1))
 
 returns-4 : tie.Need-returns-4
 returns-4 c =
@@ -70,7 +70,7 @@ scan-spec =
     tie.close
     (tie.spec
     field-at-requires
-    enum-known-i
+    enum-known-v
     field-at-requires-2
     enum-known-m
     field-at-requires-3

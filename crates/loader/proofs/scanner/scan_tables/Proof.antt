@@ -3,7 +3,7 @@ use Rattle.loader.specs.Load.{tablesFrom}
 use Rattle.tables.specs.Sizes.{mostTables, mostCells}
 use Rattle.tables.specs.Catalogues.{firstCell, given}
 use Rattle.tables.proofs.StoredLaws.{given-next}
-use Rattle.loader.proofs.LoadLaws.{good-table, good-clear, tables-over, tables-end, tables-bad, tables-more}
+use Rattle.loader.proofs.LoadLaws.{good-table, good-clear, tables-last, tables-bad, tables-more}
 use lib.ListN.{length, replicate, length-set}
 use Prim.Native.Nat.{_+_, _-_, _≤_}
 use mathlib.Core.Path.{_≡_, refl, sym, _∙_}
@@ -14,12 +14,12 @@ use Rattle.loader.proofs.scanner.scan_tables.Statement.{statement}
 use Rattle.loader.proofs.scanner.scan_tables.Tie as tie
 
 abbrev Inv-loop : tie.InvT-loop
-Inv-loop s room m n at schemes₀ rows₀ left₀ t₀ used₀ i₀ schemes rows left t used i =
-    (tablesFrom n s room m n 0 0 (replicate 8 0) (replicate 8 0) at ≡ tablesFrom left s room m n t used schemes rows i)
+Inv-loop s v room m n at schemes₀ rows₀ left₀ t₀ used₀ i₀ schemes rows left t used i =
+    (tablesFrom n s v room m n 0 0 (replicate 8 0) (replicate 8 0) at ≡ tablesFrom left s v room m n t used schemes rows i)
     × (t + left ≡ n) × (used ≤ mostCells) × (length schemes ≡ mostTables) × (length rows ≡ mostTables) × (firstCell (given m n schemes rows) t ≡ used)
 
 abbrev μ-loop : tie.MeasureT-loop
-μ-loop s room m n at schemes₀ rows₀ left₀ t₀ used₀ i₀ schemes rows left t used i = left
+μ-loop s v room m n at schemes₀ rows₀ left₀ t₀ used₀ i₀ schemes rows left t used i = left
 
 loop-holds : tie.Need-loop-holds Inv-loop μ-loop
 unfolding firstCell
@@ -58,10 +58,10 @@ loop-again c =
     let a = c .before .before .before .before .before .before .before .args in
     let x = c .before .x .given in
     let e = sym (c .before .before .before .table-at .ensures) ∙ x .1 in
-    let g = good-table (now (a .s)) (a .room) (a .m) (l .used) (l .i) _ _ _ _ e in (
-      l .inv .0 ∙ tables-more (now (a .s)) (a .room) (a .m) (a .n) (l .t) (l .used) (l .schemes) (l .rows) (l .i) (l .left) _ _ _ _ (omega arith) e,
+    let g = good-table (now (a .s)) (a .v) (a .room) (a .m) (l .used) (l .i) _ _ _ _ e in (
+      l .inv .0 ∙ tables-more (now (a .s)) (a .v) (a .room) (a .m) (a .n) (l .t) (l .used) (l .schemes) (l .rows) (l .i) (l .left) _ _ _ _ (omega arith) e,
       omega arith,
-      rw (g .cells) (good-clear _ _ _ _ _ _ _ _ _ g .most),
+      rw (g .cells) (good-clear _ _ _ _ _ _ _ _ _ _ g .most),
       simp length-set (l .inv .3),
       simp length-set (l .inv .4),
       given-next (a .m) (a .n) (l .schemes) (l .rows) (l .t) _ _ (omega arith) (omega arith) ∙ rw (l .inv .5) (sym (g .cells)),
@@ -77,35 +77,23 @@ returns : tie.Need-returns Inv-loop μ-loop
 returns c =
     let l = c .before .before .before .before .before .before .loop in
     let a = c .before .before .before .before .before .before .before .before .args in
-    c .refuse .ensures ∙ sym (l .inv .0 ∙ tables-bad (now (a .s)) (a .room) (a .m) (a .n) (l .t) (l .used) (l .schemes) (l .rows) (l .i) (l .left) _ (omega arith) (sym (c .before .before .before .before .table-at .ensures) ∙ c .before .before .f .given .1))
-
-refusal-at-requires : tie.Need-refusal-at-requires Inv-loop μ-loop
-refusal-at-requires c κs = search needs
-
-refuse-requires-2 : tie.Need-refuse-requires-2 Inv-loop μ-loop
-refuse-requires-2 c κs = search needs
-
-returns-2 : tie.Need-returns-2 Inv-loop μ-loop
-returns-2 c =
-    let l = c .before .before .before .before .loop in
-    let a = c .before .before .before .before .before .before .args in
-    c .refuse2 .ensures ∙ rw (c .before .refusal-at .ensures) (sym (l .inv .0 ∙ tables-over (now (a .s)) (a .room) (a .m) (a .n) (l .t) (l .used) (l .schemes) (l .rows) (l .i) (l .left) (omega arith) (c .before .before .if1 .taken)))
+    c .refuse .ensures ∙ sym (l .inv .0 ∙ tables-bad (now (a .s)) (a .v) (a .room) (a .m) (a .n) (l .t) (l .used) (l .schemes) (l .rows) (l .i) (l .left) _ (omega arith) (sym (c .before .before .before .before .table-at .ensures) ∙ c .before .before .f .given .1))
 
 given-requires : tie.Need-given-requires Inv-loop μ-loop
 given-requires c κs = search needs
 
-filled-requires : tie.Need-filled-requires Inv-loop μ-loop
-filled-requires c κs =
-    let l = c .before .before .before .loop in
-    let a = c .before .before .before .before .before .args in
+tables-end-requires : tie.Need-tables-end-requires Inv-loop μ-loop
+tables-end-requires c κs =
+    let l = c .before .before .loop in
+    let a = c .before .before .before .before .args in
     let e : l .t ≡ a .n = omega arith in
     rw (c .given .ensures) (omega arith, omega (arith, l .inv .2, rw e at (l .inv .5)))
 
-returns-3 : tie.Need-returns-3 Inv-loop μ-loop
-returns-3 c =
-    let l = c .before .before .before .before .loop in
-    let a = c .before .before .before .before .before .before .args in
-    rw (c .filled .ensures, c .before .given .ensures) (sym (l .inv .0 ∙ tables-end (now (a .s)) (a .room) (a .m) (a .n) (l .t) (l .used) (l .schemes) (l .rows) (l .i) (l .left) (omega arith) (c .before .before .if1 .left)))
+returns-2 : tie.Need-returns-2 Inv-loop μ-loop
+returns-2 c =
+    let l = c .before .before .before .loop in
+    let a = c .before .before .before .before .before .args in
+    c .tables-end .ensures ∙ rw (c .before .given .ensures) (sym (l .inv .0 ∙ tables-last (now (a .s)) (a .v) (a .room) (a .m) (a .n) (l .t) (l .used) (l .schemes) (l .rows) (l .i) (l .left) (omega arith)))
 
 pub scan-tables-spec : {M : Type 1} → statement M
 scan-tables-spec =
@@ -127,9 +115,6 @@ scan-tables-spec =
     enum-known-f
     refuse-requires
     returns
-    refusal-at-requires
-    refuse-requires-2
-    returns-2
     given-requires
-    filled-requires
-    returns-3)
+    tables-end-requires
+    returns-2)

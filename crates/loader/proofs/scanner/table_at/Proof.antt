@@ -21,7 +21,7 @@ refusal-at-requires c κs = search needs
 returns : tie.Need-returns
 returns c =
     let r = c .before .before .before .before in
-    rw (c .refusal-at .ensures) (sym (table-scheme _ _ _ _ _ _ _ (sym (r .before .before .read .ensures) ∙ r .scheme .given .1) (sym (c .before .before .scheme-bad .ensures) ∙ c .before .if1 .taken)))
+    rw (c .refusal-at .ensures) (sym (table-scheme _ _ _ _ _ _ _ _ (sym (r .before .before .read .ensures) ∙ r .scheme .given .1) (sym (c .before .before .scheme-bad .ensures) ∙ c .before .if1 .taken)))
 
 count-at-requires : tie.Need-count-at-requires
 count-at-requires c κs = search needs
@@ -35,10 +35,10 @@ refusal-at-requires-2 c κs = search needs
 returns-2 : tie.Need-returns-2
 returns-2 c =
     let r = c .before .before .before .before in
-    c .count-at .ensures ∙ sym (table-count _ _ _ _ _ _ _ (sym (r .before .before .read .ensures) ∙ r .scheme .given .1) (sym (c .before .before .scheme-bad .ensures) ∙ c .before .if1 .left))
+    c .count-at .ensures ∙ sym (table-count _ _ _ _ _ _ _ _ (sym (r .before .before .read .ensures) ∙ r .scheme .given .1) (sym (c .before .before .scheme-bad .ensures) ∙ c .before .if1 .left))
 
 returns-3 : tie.Need-returns-3
-returns-3 c = rw (c .refusal-at2 .ensures) (sym (table-bad _ _ _ _ _ _ _ (sym (c .before .before .before .before .read .ensures) ∙ c .before .before .k .given .1)))
+returns-3 c = rw (c .refusal-at2 .ensures) (sym (table-bad _ _ _ _ _ _ _ _ (sym (c .before .before .before .before .read .ensures) ∙ c .before .before .k .given .1)))
 
 pub table-at-spec : {M : Type 1} → statement M
 table-at-spec =

@@ -5,7 +5,7 @@ use native.Mathlib.Omega.{arith}
 use Prim.Native.Nat.{_+_, _-_, _≤_}
 use mathlib.Core.Path.{_≡_, sym, _∙_}
 use lib.ListN.{length}
-use Rattle.tables.specs.Checks.{Lawful}
+use Rattle.tables.specs.Checks.{catalogueFault, Lawful}
 use Rattle.tables.proofs.CatalogueLaws.{table-ends}
 use Rattle.tables.proofs.CheckLaws.{first-some, first-none, fault-lawful}
 use Rattle.writer.specs.Write.{rowsRefusal, cellsFault, writeFault}
@@ -14,17 +14,17 @@ use Rattle.writer.proofs.checker.fault.Statement.{statement}
 use Rattle.writer.proofs.checker.fault.Tie as tie
 
 abbrev Inv-loop : tie.InvT-loop
-Inv-loop cells cat f n t₀ t = (t ≤ n) × Lawful cat (length cells) × (writeFault cat cells ≡ cellsFault (n - t) cat cells t)
+Inv-loop cells cat f n version t₀ t = (t ≤ n) × Lawful cat (length cells) × (writeFault cat cells ≡ cellsFault (n - t) cat cells t)
 
 abbrev μ-loop : tie.MeasureT-loop
-μ-loop cells cat f n t₀ t = n - t
+μ-loop cells cat f n version t₀ t = n - t
 
 -- The loop, from where the width of table t is known; and where the walk begins.
 abbrev walk : tie.After-width Inv-loop μ-loop → tie.In-loop Inv-loop μ-loop
 walk c = c .before .before .before
 
 abbrev start : tie.At-loop Inv-loop μ-loop → tie.Start Inv-loop μ-loop
-start l = l .before .before .before .before
+start l = l .before .before .before .before .before
 
 fault-requires : tie.Need-fault-requires Inv-loop μ-loop
 fault-requires c κs = search needs
@@ -33,13 +33,19 @@ returns : tie.Need-returns Inv-loop μ-loop
 unfolding writeFault
 returns c = sym (first-some _ _ (λ e. c .if1 .taken (c .before .fault .ensures ∙ e)) ∙ sym (c .before .fault .ensures))
 
+-- The catalogue has no fault.
+clear : (c : tie.Else1 Inv-loop μ-loop) → catalogueFault (c .before .before .before .args .t1) (length (c .before .before .before .args .cells .now)) ≡ 0
+clear c = sym (c .before .fault .ensures) ∙ c .if1 .left
+
+version-of-requires : tie.Need-version-of-requires Inv-loop μ-loop
+version-of-requires c κs = fault-lawful _ _ (clear c) .tables
+
 loop-holds : tie.Need-loop-holds Inv-loop μ-loop
 unfolding writeFault
 loop-holds c =
-    let n = c .before .before .before .args .t1 .n in
+    let n = c .before .before .before .before .args .t1 .n in
     let e : n - 0 ≡ n = omega arith in
-    let z = sym (c .before .fault .ensures) ∙ c .if1 .left in
-    (omega arith, fault-lawful _ _ z, rw e (first-none _ _ z))
+    (omega arith, fault-lawful _ _ (clear (c .before)), rw e (first-none _ _ (clear (c .before))))
 
 mul-start : tie.Need-mul-start Inv-loop μ-loop
 mul-start c = search needs
@@ -82,7 +88,11 @@ met : (c : tie.After-rows-fault Inv-loop μ-loop)
     rowsRefusal (start (i .before) .args .t1) (start (i .before) .args .cells .now) (i .before .loop .t) ≡ c .rows-fault .result)
 met c =
     let i = walk (c .before .before) in
-    rw (← c .before .before .width .ensures, ← i .before .loop .inv .1 .places (i .before .loop .t) (i .loop-test .taken)) (sym (c .rows-fault .ensures))
+    rw (
+      ← c .before .before .width .ensures,
+      ← i .before .before .version-of .ensures,
+      ← i .before .loop .inv .1 .places (i .before .loop .t) (i .loop-test .taken),
+    ) (sym (c .rows-fault .ensures))
 
 returns-2 : tie.Need-returns-2 Inv-loop μ-loop
 returns-2 c =
@@ -117,6 +127,7 @@ fault-spec =
     μ-loop
     fault-requires
     returns
+    version-of-requires
     loop-holds
     mul-start
     element-copy-out-start

@@ -27,7 +27,7 @@ abbrev walk : tie.After-width Inv-loop μ-loop → tie.In-loop Inv-loop μ-loop
 walk c = c .before .before .before .before
 
 abbrev start : tie.At-loop Inv-loop μ-loop → tie.Start Inv-loop μ-loop
-start l = l .before .before .before .before .before
+start l = l .before .before .before
 
 -- What the table at hand has,
 here : (c : tie.After-width Inv-loop μ-loop)
@@ -40,30 +40,14 @@ short : (c : tie.After-width Inv-loop μ-loop)
     → (let s = start (walk c .before) in length (imageOf (s .args .t1) (s .args .cells .now)) ≤ mostBytes * (3 + 2 * mostTables + mostCells))
 short c = image-few _ _ (start (walk c .before) .pre)
 
-size-requires : tie.Need-size-requires Inv-loop μ-loop
-size-requires c κs = search needs
-
-size-requires-2 : tie.Need-size-requires-2 Inv-loop μ-loop
-size-requires-2 c κs = omega (arith, fault-accepted _ _ (c .before .before .pre) .lawful .attributes)
-
-add-sum : tie.Need-add-sum Inv-loop μ-loop
-add-sum c =
-    let p = c .before .before .before in
-    omega (arith, c .size2 .ensures, c .before .size .ensures, head-length (p .args .t1) (p .args .cells .now), image-few _ _ (p .pre))
-
-size-requires-3 : tie.Need-size-requires-3 Inv-loop μ-loop
-size-requires-3 c κs = omega (arith, fault-accepted _ _ (c .before .before .before .pre) .lawful .tables)
-
-add-sum-2 : tie.Need-add-sum-2 Inv-loop μ-loop
-add-sum-2 c =
-    let p = c .before .before .before .before in
-    omega (arith, c .size3 .ensures, c .before .size2 .ensures, c .before .before .size .ensures, head-length (p .args .t1) (p .args .cells .now), image-few _ _ (p .pre))
+head-size-requires : tie.Need-head-size-requires Inv-loop μ-loop
+head-size-requires c κs = let L = fault-accepted _ _ (c .before .pre) .lawful in (L .attributes, L .tables)
 
 loop-holds : tie.Need-loop-holds Inv-loop μ-loop
 loop-holds c =
-    let p = c .before .before .before .before in
+    let p = c .before .before in
     let e : p .args .t1 .n - 0 ≡ p .args .t1 .n = omega arith in
-    (omega arith, rw e (omega (arith, c .size3 .ensures, c .before .size2 .ensures, c .before .before .size .ensures, head-length (p .args .t1) (p .args .cells .now))), fault-accepted _ _ (p .pre) .lawful .tables)
+    (omega arith, rw e (omega (arith, c .head-size .ensures, head-length (p .args .t1) (p .args .cells .now))), fault-accepted _ _ (p .pre) .lawful .tables)
 
 mul-scheme : tie.Need-mul-scheme Inv-loop μ-loop
 mul-scheme c = search needs
@@ -95,28 +79,28 @@ width-requires c κs = search needs
 mul-count : tie.Need-mul-count Inv-loop μ-loop
 mul-count c = omega (arith, here c .most)
 
-size-requires-4 : tie.Need-size-requires-4 Inv-loop μ-loop
-size-requires-4 c κs = here c .scheme
+size-requires : tie.Need-size-requires Inv-loop μ-loop
+size-requires c κs = here c .scheme
 
-add-sum-3 : tie.Need-add-sum-3 Inv-loop μ-loop
-add-sum-3 c = omega (arith, c .size4 .ensures, here (c .before) .size, here (c .before) .three, walk (c .before) .before .loop .inv .1, short (c .before))
+add-sum : tie.Need-add-sum Inv-loop μ-loop
+add-sum c = omega (arith, c .size .ensures, here (c .before) .size, here (c .before) .three, walk (c .before) .before .loop .inv .1, short (c .before))
 
 cast-size : tie.Need-cast-size Inv-loop μ-loop
 cast-size c = search needs
 
-size-requires-5 : tie.Need-size-requires-5 Inv-loop μ-loop
-size-requires-5 c κs = omega (arith, here (c .before) .rows)
+size-requires-2 : tie.Need-size-requires-2 Inv-loop μ-loop
+size-requires-2 c κs = omega (arith, here (c .before) .rows)
 
-add-sum-4 : tie.Need-add-sum-4 Inv-loop μ-loop
-add-sum-4 c = omega (arith, c .size5 .ensures, c .before .size4 .ensures, here (c .before .before) .size, here (c .before .before) .three, walk (c .before .before) .before .loop .inv .1, short (c .before .before))
+add-sum-2 : tie.Need-add-sum-2 Inv-loop μ-loop
+add-sum-2 c = omega (arith, c .size2 .ensures, c .before .size .ensures, here (c .before .before) .size, here (c .before .before) .three, walk (c .before .before) .before .loop .inv .1, short (c .before .before))
 
 run-size-requires : tie.Need-run-size-requires Inv-loop μ-loop
 run-size-requires c κs =
     let g = here (c .before .before) in
     (g .inside, omega (arith, g .most), g .low)
 
-add-sum-5 : tie.Need-add-sum-5 Inv-loop μ-loop
-add-sum-5 c = omega (arith, c .run-size .ensures, c .before .size5 .ensures, c .before .before .size4 .ensures, here (c .before .before .before) .size, here (c .before .before .before) .three, walk (c .before .before .before) .before .loop .inv .1, short (c .before .before .before))
+add-sum-3 : tie.Need-add-sum-3 Inv-loop μ-loop
+add-sum-3 c = omega (arith, c .run-size .ensures, c .before .size2 .ensures, c .before .before .size .ensures, here (c .before .before .before) .size, here (c .before .before .before) .three, walk (c .before .before .before) .before .loop .inv .1, short (c .before .before .before))
 
 add-t : tie.Need-add-t Inv-loop μ-loop
 add-t c = search needs
@@ -129,14 +113,14 @@ loop-again c =
     let w = c .before .before .before in
     let l = walk w .before .loop in (
       omega (arith, walk w .loop-test .taken),
-      omega (arith, c .run-size .ensures, c .before .size5 .ensures, c .before .before .size4 .ensures, here w .size, here w .three, l .inv .1),
+      omega (arith, c .run-size .ensures, c .before .size2 .ensures, c .before .before .size .ensures, here w .size, here w .three, l .inv .1),
       l .inv .2,
     )
 
 returns : tie.Need-returns Inv-loop μ-loop
 returns c =
     let l = c .before .loop in
-    let p = c .before .before .before .before .before .before .args in
+    let p = c .before .before .before .before .args in
     omega (arith, l .inv .1, ap length (image-none (p .t1) (p .cells .now) (p .t1 .n - l .t) (l .t) (omega arith)))
 
 pub image-length-spec : {M : Type 1} → statement M
@@ -145,11 +129,7 @@ image-length-spec =
     (tie.spec
     Inv-loop
     μ-loop
-    size-requires
-    size-requires-2
-    add-sum
-    size-requires-3
-    add-sum-2
+    head-size-requires
     loop-holds
     mul-scheme
     element-copy-out-scheme
@@ -161,13 +141,13 @@ image-length-spec =
     cast-count
     width-requires
     mul-count
-    size-requires-4
-    add-sum-3
+    size-requires
+    add-sum
     cast-size
-    size-requires-5
-    add-sum-4
+    size-requires-2
+    add-sum-2
     run-size-requires
-    add-sum-5
+    add-sum-3
     add-t
     loop-less
     loop-again

@@ -9,10 +9,10 @@ use Rattle.laws.specs.Lists.{put, over}
 use Rattle.laws.proofs.ListLaws.{put-nil}
 use Rattle.tables.specs.Sizes.{mostTables}
 use Rattle.tables.specs.Catalogues.{placeIn}
-use Rattle.writer.specs.Write.{tablesImage, imageOf}
+use Rattle.writer.specs.Write.{tablesImage, headBytes, imageOf}
 use Rattle.writer.proofs.AcceptLaws.{fault-accepted}
 use Rattle.laws.proofs.PlacedLaws.{placed-length, placed-rest}
-use Rattle.writer.proofs.WriteLaws.{tableBytes, headBytes, head-three, Table, table-good, head-length, image-none, image-head}
+use Rattle.writer.proofs.WriteLaws.{tableBytes, Table, table-good, head-length, image-none, image-head}
 use Rattle.writer.proofs.putter.put_image.Statement.{statement}
 use Rattle.writer.proofs.putter.put_image.Tie as tie
 
@@ -31,7 +31,7 @@ abbrev μ-loop : tie.MeasureT-loop
 room : (c : tie.After-put-head Inv-loop μ-loop) → 0 + length (headBytes (c .before .before .before .before .args .t1)) ≤ length (c .before .before .before .before .args .out .now)
 room c =
     let p = c .before .before .before .before in
-    omega (arith, head-three (p .args .t1), head-length (p .args .t1) (p .args .cells .now), p .pre .1)
+    omega (arith, head-length (p .args .t1) (p .args .cells .now), p .pre .1)
 
 -- The loop, from where the width of table t is known; the head that was written before it; and where the walk begins.
 abbrev walk : tie.After-width Inv-loop μ-loop → tie.In-loop Inv-loop μ-loop
@@ -62,7 +62,7 @@ put-head-requires : tie.Need-put-head-requires Inv-loop μ-loop
 put-head-requires c κs =
     let p = c .before .before .before in
     let L = fault-accepted _ _ (p .pre .0) .lawful in
-    (omega (arith, L .attributes), omega (arith, L .tables), omega (arith, head-length (p .args .t1) (p .args .cells .now), p .pre .1))
+    (L .attributes, L .tables, omega (arith, head-length (p .args .t1) (p .args .cells .now), p .pre .1))
 
 loop-holds : tie.Need-loop-holds Inv-loop μ-loop
 loop-holds c =
@@ -70,7 +70,7 @@ loop-holds c =
     let cat = p .args .t1 in
     let h = c .before .before .put-head .ensures in
     let e : cat .n - 0 ≡ cat .n = omega arith in
-    (omega arith, refl, rw e (omega (arith, h .next, head-three cat, head-length cat (p .args .cells .now))), rw e, fault-accepted _ _ (p .pre .0) .lawful .tables)
+    (omega arith, refl, rw e (omega (arith, h .next, head-length cat (p .args .cells .now))), rw e, fault-accepted _ _ (p .pre .0) .lawful .tables)
 
 mul-scheme : tie.Need-mul-scheme Inv-loop μ-loop
 mul-scheme c = search needs
