@@ -113,7 +113,7 @@ module _ (cat : Catalogue) (cells : List ℕ) (A : Accepted cat cells) where
         let e : r + 1 - 1 ≡ r = omega arith in
         ⊎-elim
         (λ y. y)
-        (λ f. absurd (good .1 (omega arith, rw e f)))
+        (λ f. absurd (good .2 (omega arith, rw e f)))
         (which (below (rowCells cat cells t r) (rowCells cat cells t (r + 1))))
 
     -- and so below every later one.

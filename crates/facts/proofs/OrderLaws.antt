@@ -23,7 +23,7 @@ use Rattle.disjunction.specs.Cells.{tables, padded}
 use Rattle.rows.specs.World.{cellsIn, worldOf}
 use Rattle.rows.proofs.WorldLaws.{world-tables, code-inside}
 use Rattle.writer.specs.Write.{cellsOf, Accepted}
-use Rattle.claims.specs.WriteRefusals.{rowCells}
+use Rattle.claims.specs.WriteRefusals.{NeedsTwo, rowCells}
 use Rattle.claims.proofs.RowsExactly.{rows-good}
 use Rattle.facts.specs.Filing.{Renumbering, renumbered, RefiledCells, reordered, reorderedTo, reorderedCells, reorderedIn}
 use Rattle.facts.proofs.SumLaws.{sumTo, sum-renumbered}
@@ -51,6 +51,10 @@ module _ (cat : Catalogue) (cells : List ℕ) (to from : ℕ → ℕ) (h : Renum
 
   count-moved : (u : ℕ) → u < cat .n → countOf moved u ≡ countOf cat (from u)
   count-moved u l = for-at (cat .n) (λ u. countOf cat (from u)) u l (L .tables)
+
+  -- The new order needs version 2 only where the old one does: a table keeps the number of its rows.
+  two-moved : NeedsTwo moved → NeedsTwo cat
+  two-moved (u, l, b) = (from u, h .from-lt u l, rw (count-moved u l) at b)
 
   -- ---- how many cells there are
 
@@ -219,8 +223,9 @@ module _ (cat : Catalogue) (cells : List ℕ) (to from : ℕ → ℕ) (h : Renum
               let good = rows-good cat cells (from u) .0 (A .rows (from u) (h .from-lt u l)) r low old in
               let here = rows-moved u r l low old in (
                 λ x. good .0 (rw here at x),
+                λ x. good .1 (two-moved (x .0), rw here at (x .1)),
                 λ x.
                     let before = rows-moved u (r - 1) l (omega (arith, x .0)) (omega arith) in
-                    good .1 (x .0, rw (before, here) at (x .1)),
+                    good .2 (x .0, rw (before, here) at (x .1)),
               ));
         }

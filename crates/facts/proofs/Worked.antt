@@ -15,6 +15,7 @@ use Rattle.tables.specs.declared.Catalogue.{Catalogue}
 use Rattle.tables.specs.Rows.{below}
 use Rattle.tables.specs.Catalogues.{firstCell, rowStart, touch, touchingBelow, forTables}
 use Rattle.tables.specs.Checks.{Lawful, sizeFault, badScheme, countFault, tableFault, tablesFault, shapeFault, misstored, storedFault, catalogueFault}
+use Rattle.tables.specs.Versions.{versionOf, someLong, mostRowsIn, needless, blank}
 use Rattle.tables.specs.Sample.{three, threeCells}
 use Rattle.tables.proofs.CheckLaws.{fault-lawful}
 use Rattle.disjunction.specs.Sets.{Tables, Maximal}
@@ -27,7 +28,7 @@ use Rattle.rows.specs.World.{cellsIn, worldOf, touchesIn, fitsIn}
 use Rattle.rows.proofs.WorldLaws.{world-symmetric}
 use Rattle.padding.specs.Covering.{keeps, covering}
 use Rattle.loader.specs.Reading.{refusalAt, runEnd, codes, rowsFrom}
-use Rattle.loader.specs.Load.{firstTable, refused, fieldAt, countAt, tableAt, tablesFrom, scanOf, tablesCodes}
+use Rattle.loader.specs.Load.{firstTable, refused, fieldAt, countAt, tableAt, tablesEnd, tablesFrom, scanOf, tablesCodes}
 use Rattle.writer.specs.Write.{encodes, tablesImage, imageOf, tooHigh, rowsFault, cellsFault, writeFault}
 use Rattle.image.specs.RoundTrip.{found}
 use Rattle.facts.specs.Filing.{renumbered, reordered, reorderedTo, reorderedCells}
@@ -88,7 +89,7 @@ unfolding pair pairCells firstCell rowStart bitOf ones onesIn touchesIn fitsIn l
 pair-drained = refl
 
 pair-loads : (scanOf pairBytes 4 ≡ found pair) × (tablesCodes 2 pairBytes firstTable ≡ pairCells)
-unfolding pairBytes pair pairCells decode ones onesIn firstCell touch touchingBelow forTables tab badScheme countFault below runEnd codes rowsFrom fieldAt countAt tableAt tablesFrom scanOf tablesCodes
+unfolding pairBytes pair pairCells decode ones onesIn firstCell touch touchingBelow forTables tab badScheme countFault mostRowsIn needless blank below runEnd codes rowsFrom fieldAt countAt tableAt tablesEnd tablesFrom scanOf tablesCodes
 pair-loads = (refl, refl)
 
 pair-rows : (padded (cellsIn pair pairCells) (1 ∷ 0 ∷ []) ≡ 2 ∷ 3 ∷ []) × (padded (cellsIn pair pairCells) (0 ∷ 1 ∷ []) ≡ 2 ∷ 0 ∷ [])
@@ -117,7 +118,7 @@ unfolding twice twiceCells firstCell touch touchingBelow ones onesIn sizeFault b
 twice-clear = refl
 
 twice-refused : (writeFault twice twiceCells ≡ 7) × (imageOf twice twiceCells ≡ twiceBytes) × (scanOf twiceBytes 2 ≡ refused (refusalAt 7 6 0))
-unfolding twice twiceCells twiceBytes firstCell touch touchingBelow ones onesIn sizeFault badScheme countFault tableFault tablesFault shapeFault misstored storedFault catalogueFault any encode encodes tablesImage imageOf tooHigh below rowsFault cellsFault writeFault decode runEnd codes rowsFrom fieldAt countAt tableAt tablesFrom scanOf
+unfolding twice twiceCells twiceBytes firstCell touch touchingBelow ones onesIn sizeFault badScheme countFault tableFault tablesFault shapeFault misstored storedFault catalogueFault any versionOf someLong mostRowsIn blank encode encodes tablesImage imageOf tooHigh below rowsFault cellsFault writeFault decode runEnd codes rowsFrom fieldAt countAt tableAt tablesFrom scanOf
 twice-refused = (refl, refl, refl)
 
 twice-values : (k : ℕ) → k < firstCell twice (twice .n) → 0 < getD twiceCells k 0
