@@ -56,12 +56,11 @@ text-taken : (f : Form) (b : ℕ) (s : List ℕ) (c : ℕ) (row : List ℕ) → 
 text-taken f b s c row (l, h, q, k) g e = lines-on b s f c row (Takes g) (rw (kind-text b l h q k) e)
 
 plain-read : (x t : List ℕ) (c : ℕ) (row : List ℕ) → Plain x → linesFrom (x ++ t) InPlain c row ≡ linesFrom t InPlain (codeFrom c x) row
-unfolding act
 plain-read [] t c row Plain.none = rw (code-none c)
 plain-read (b ∷ x) t c row (Plain.more w p) = text-taken InPlain b (x ++ t) c row w InPlain refl ∙ rw (code-more c b x) (plain-read x t (codeOn c b) row p)
 
 inside-read : {x k : List ℕ} (t : List ℕ) (c : ℕ) (row : List ℕ) → Inside x k → linesFrom (x ++ t) InQuotes c row ≡ linesFrom t InQuotes (codeFrom c k) row
-unfolding act kindOf
+unfolding kindOf
 inside-read t c row Inside.none = rw (code-none c)
 inside-read t c row (Inside.text {b} {s = x} {c = k} w i) = text-taken InQuotes b (x ++ t) c row w InQuotes refl ∙ rw (code-more c b k) (inside-read t (codeOn c b) row i)
 inside-read t c row (Inside.commaIn {s = x} {c = k} i) = lines-on comma (x ++ t) InQuotes c row (Takes InQuotes) refl ∙ rw (code-more c comma k) (inside-read t (codeOn c comma) row i)
@@ -79,7 +78,7 @@ pub data Over : List ℕ → Form → Type 0 where
 
 -- Over a field the reading comes to its content's code.
 pub field-read : {x k : List ℕ} → Field x k → (f : Form) × Over x f × ((t row : List ℕ) → linesFrom (x ++ t) AtStart 0 row ≡ linesFrom t f (codeFrom 0 k) row)
-unfolding act kindOf
+unfolding kindOf
 field-read (nonescaped Plain.none) = (AtStart, overNone, λ t row. rw (code-none 0))
 field-read (nonescaped (Plain.more {b} {s = x} w p)) =
     (InPlain, overPlain, λ t row. text-taken AtStart b (x ++ t) 0 row w InPlain refl ∙ rw (code-more 0 b x) (plain-read x t (codeOn 0 b) row p))
@@ -120,7 +119,7 @@ stuck-goes f g b s e h c row = lines-on b s f c row (Marks g) e ∙ h c row
 
 -- Behind a CR comes LF, or the reading is broken.
 cr-ways : (s : List ℕ) → ((t : List ℕ) × (s ≡ lf ∷ t)) ⊎ Stuck s AfterCr
-unfolding linesFrom act kindOf
+unfolding linesFrom kindOf
 cr-ways [] = inr (λ c row. refl)
 cr-ways (b ∷ s) = by (which b)
   where
@@ -138,7 +137,7 @@ abbrev PlainWays : List ℕ → Type 0
 PlainWays s = ((x : List ℕ) × Plain x × (n : Next) × (s ≡ x ++ after n)) ⊎ Stuck s InPlain
 
 plain-ways : (s : List ℕ) → PlainWays s
-unfolding act kindOf
+unfolding kindOf
 plain-ways [] = inl ([], Plain.none, toEnd, refl)
 plain-ways (b ∷ s) = by (which b) (plain-ways s) (cr-ways s)
   where
@@ -172,7 +171,7 @@ abbrev ClosedWays : List ℕ → Type 0
 ClosedWays s = ((n : Next) × (s ≡ after n)) ⊎ (((t : List ℕ) × (s ≡ quote ∷ t) × Rest t) ⊎ Stuck s AfterQuote)
 
 quoted-step : (b : ℕ) (s : List ℕ) → Which b → QuotedWays s → ClosedWays s → QuotedWays (b ∷ s)
-unfolding act kindOf
+unfolding kindOf
 quoted-step b s o q k = by o q k
   where
     -- A byte that belongs to the content.
@@ -194,7 +193,7 @@ quoted-step b s o q k = by o q k
     by (isOther j) q k = inr (stuck-at InQuotes b s (rw j))
 
 closed-step : (b : ℕ) (s : List ℕ) → Which b → QuotedWays s → ClosedWays (b ∷ s)
-unfolding act kindOf
+unfolding kindOf
 closed-step b s o q = by o q (cr-ways s)
   where
     again : b ≡ quote → QuotedWays s → ClosedWays (b ∷ s)
@@ -224,7 +223,7 @@ abbrev pub FieldWays : List ℕ → Type 0
 FieldWays s = ((k : List ℕ) × (n : Next) × FieldThen s k (after n)) ⊎ Stuck s AtStart
 
 pub field-ways : (s : List ℕ) → FieldWays s
-unfolding act kindOf
+unfolding kindOf
 field-ways [] = inl ([], toEnd, ([], nonescaped Plain.none, refl))
 field-ways (b ∷ s) = by (which b)
   where

@@ -12,9 +12,25 @@ use Rattle.text.specs.declared.Form.{Form}
 use Rattle.text.specs.declared.Form.the-variants.{AtStart, InPlain, InQuotes, AfterQuote, AfterCr}
 use Rattle.text.specs.declared.Act.{Act}
 use Rattle.text.specs.declared.Act.the-variants.{Marks, NextField, NextLine}
-use Rattle.text.specs.declared.Kind.the-variants.{TextByte, OtherByte}
+use Rattle.text.specs.declared.Kind.the-variants.{TextByte, QuoteByte, CommaByte, CrByte, LfByte, OtherByte}
 
 -- ---- kinds
+
+pub kind-quote : (b : ℕ) → b ≡ quote → kindOf b ≡ QuoteByte
+unfolding kindOf
+kind-quote b e = rw e
+
+pub kind-comma : (b : ℕ) → b ≡ comma → kindOf b ≡ CommaByte
+unfolding kindOf
+kind-comma b e = rw e
+
+pub kind-cr : (b : ℕ) → b ≡ cr → kindOf b ≡ CrByte
+unfolding kindOf
+kind-cr b e = rw e
+
+pub kind-lf : (b : ℕ) → b ≡ lf → kindOf b ≡ LfByte
+unfolding kindOf
+kind-lf b e = rw e
 
 pub kind-text : (b : ℕ) → 0x20 ≤ b → b ≤ 0x7E → (b ≡ quote → ⊥) → (b ≡ comma → ⊥) → kindOf b ≡ TextByte
 unfolding kindOf
@@ -61,6 +77,28 @@ pub code-other : (c b : ℕ) → isDigit b ≡ false → codeOn c b ≡ noCode
 unfolding codeOn
 code-other c b d = rw d
 
+-- One law for each way that code goes.
+pub code-below : (c b : ℕ) → b < digitZero → codeOn c b ≡ noCode
+unfolding codeOn isDigit
+code-below c b h = rw (lt-leb digitZero b h)
+
+pub code-above : (c b : ℕ) → digitZero + 9 < b → codeOn c b ≡ noCode
+unfolding codeOn isDigit
+code-above c b h = rw (le-leb digitZero b (omega arith), lt-leb b (digitZero + 9) h)
+
+module _ (c b : ℕ) (l : digitZero ≤ b) (h : b ≤ digitZero + 9) where
+  pub code-start : c ≡ 0 → codeOn c b ≡ b - digitZero + 1
+  code-start e = rw e (code-first b (digit-is b l h))
+
+  pub code-behind-zero : c ≡ 1 → codeOn c b ≡ noCode
+  code-behind-zero e = rw e (code-zero b)
+
+  pub code-over : 1 < c → noCode ≤ 10 * (c - 1) + (b - digitZero) + 1 → codeOn c b ≡ noCode
+  code-over z k = code-next c b (digit-is b l h) z ∙ omega arith
+
+  pub code-longer : 1 < c → 10 * (c - 1) + (b - digitZero) + 1 ≤ noCode → codeOn c b ≡ 10 * (c - 1) + (b - digitZero) + 1
+  code-longer z k = code-next c b (digit-is b l h) z ∙ omega arith
+
 -- ---- the reading
 
 pub lines-on : (b : ℕ) (s : List ℕ) (f : Form) (c : ℕ) (row : List ℕ) (a : Act) → act f (kindOf b) ≡ a
@@ -77,7 +115,7 @@ MayEnd AfterQuote = Unit
 MayEnd AfterCr = ⊥
 
 comma-act : (f : Form) → MayEnd f → act f (kindOf comma) ≡ NextField
-unfolding act kindOf
+unfolding kindOf
 comma-act AtStart h = refl
 comma-act InPlain h = refl
 comma-act InQuotes h = absurd h
@@ -85,7 +123,7 @@ comma-act AfterQuote h = refl
 comma-act AfterCr h = absurd h
 
 cr-act : (f : Form) → MayEnd f → act f (kindOf cr) ≡ Marks AfterCr
-unfolding act kindOf
+unfolding kindOf
 cr-act AtStart h = refl
 cr-act InPlain h = refl
 cr-act InQuotes h = absurd h
@@ -93,7 +131,7 @@ cr-act AfterQuote h = refl
 cr-act AfterCr h = absurd h
 
 lf-act : act AfterCr (kindOf lf) ≡ NextLine
-unfolding act kindOf
+unfolding kindOf
 lf-act = refl
 
 pub comma-ends : (f : Form) (c : ℕ) (t row : List ℕ) → MayEnd f → linesFrom (comma ∷ t) f c row ≡ linesFrom t AtStart 0 (row ++ (c ∷ []))

@@ -21,14 +21,12 @@ digit-act : (f : Form) (d : ℕ) → d < 10 → act f (kindOf (digitZero + d)) �
 digit-act f d h = rw (kind-text (digitZero + d) (omega arith) (omega arith) (omega arith) (omega arith))
 
 first-digit : (d : ℕ) (t row : List ℕ) → d < 10 → linesFrom ((digitZero + d) ∷ t) AtStart 0 row ≡ linesFrom t InPlain (d + 1) row
-unfolding act
 first-digit d t row h =
     let e : codeOn 0 (digitZero + d) ≡ d + 1 = code-first (digitZero + d) (digit-is (digitZero + d) (omega arith) (omega arith)) ∙ omega arith in
     lines-on (digitZero + d) t AtStart 0 row (Takes InPlain) (digit-act AtStart d h) ∙ rw e
 
 next-digit : (v d : ℕ) (t row : List ℕ) → 0 < v → d < 10 → 10 * v + d + 1 ≤ noCode
     → linesFrom ((digitZero + d) ∷ t) InPlain (v + 1) row ≡ linesFrom t InPlain (10 * v + d + 1) row
-unfolding act
 next-digit v d t row z h l =
     let e : codeOn (v + 1) (digitZero + d) ≡ 10 * v + d + 1
     = code-next (v + 1) (digitZero + d) (digit-is (digitZero + d) (omega arith) (omega arith)) (omega arith) ∙ omega arith in

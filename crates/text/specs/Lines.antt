@@ -68,7 +68,7 @@ codeFrom c (b ∷ s) = codeFrom (codeOn c b) s
 
 -- "record = field *(COMMA field)", "field = (escaped / non-escaped)", "escaped = DQUOTE *(TEXTDATA / COMMA / CR / LF / 2DQUOTE) DQUOTE",
 -- "non-escaped = *TEXTDATA"; a line ends in CRLF.
-unfoldable pub act : Form → Kind → Act
+abbrev pub act : Form → Kind → Act
 act AtStart TextByte = Takes InPlain
 act AtStart QuoteByte = Marks InQuotes
 act AtStart CommaByte = NextField
