@@ -1,2 +1,3 @@
 pub mod LineSteps
 pub mod HeadSteps
+pub mod PlacesLaws

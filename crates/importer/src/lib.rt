@@ -3,6 +3,7 @@
 // rows are compared in the text, and the cells are filled last, when nothing is refused.
 
 mod header;
+mod keeper;
 mod liner;
 
 // The answer of a reading: the table's scheme and how many rows it has; or the number of the refusal with its line and field.
