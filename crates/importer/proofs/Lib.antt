@@ -1,3 +1,4 @@
 pub mod LineSteps
 pub mod HeadSteps
 pub mod PlacesLaws
+pub mod CollectLaws

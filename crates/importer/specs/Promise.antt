@@ -12,7 +12,11 @@ abbrev pub answerOf : Told → TextRead
 answerOf (table scheme rows) = Table scheme (length rows)
 answerOf (refused number line field) = Refused number line field
 
--- The answer of a reading of the bytes s into the lent cells, and what these hold then.
-pub record ReadsText (m : ℕ) (s lent : List ℕ) (r : TextRead) (after : List ℕ) : Type 0 where
-  pub answer : r ≡ answerOf (readOf m (length lent) s)
-  pub cells : after ≡ cellsAfter (readOf m (length lent) s) lent
+-- What is told, as an answer, and what the lent cells hold then.
+pub record Tells (t : Told) (lent : List ℕ) (r : TextRead) (after : List ℕ) : Type 0 where
+  pub answer : r ≡ answerOf t
+  pub cells : after ≡ cellsAfter t lent
+
+-- A reading of the bytes s into the lent cells.
+abbrev pub ReadsText : (m : ℕ) (s lent : List ℕ) → TextRead → List ℕ → Type 0
+ReadsText m s lent r after = Tells (readOf m (length lent) s) lent r after
