@@ -51,8 +51,8 @@ module _ (w : ℕ) (s : List ℕ) (from first at l : ℕ) (so : RestSoFar w s fr
   rest-on n e =
       record {
         told = λ room x kept m.
-        let (more, k, q) = so .told room x kept m in
-        (insert (codesAt w s at) more, omega (arith, insert-long (codesAt w s at) more), q ∙ e .told room x l more);
+            let (more, k, q) = so .told room x kept m in
+            (insert (codesAt w s at) more, omega (arith, insert-long (codesAt w s at) more), q ∙ e .told room x l more);
         low = omega (arith, so .low, e .sizes);
         most = e .sizes .1;
       }
@@ -61,8 +61,8 @@ module _ (w : ℕ) (s : List ℕ) (from first at l : ℕ) (so : RestSoFar w s fr
   rest-end e =
       record {
         told = λ room x kept after m.
-        let (more, k, q) = so .told room x kept m in
-        q ∙ e .told room x l more ∙ counted-6 room x w more k;
+            let (more, k, q) = so .told room x kept m in
+            q ∙ e .told room x l more ∙ counted-6 room x w more k;
         sizes = tt;
       }
 
@@ -70,8 +70,8 @@ module _ (w : ℕ) (s : List ℕ) (from first at l : ℕ) (so : RestSoFar w s fr
   rest-bad k f e =
       record {
         told = λ room x kept after m.
-        let (more, h, q) = so .told room x kept m in
-        q ∙ e .told room x l more;
+            let (more, h, q) = so .told room x kept m in
+            q ∙ e .told room x l more;
         sizes = tt;
       }
 

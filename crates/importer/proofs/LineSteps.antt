@@ -111,7 +111,7 @@ module _ (w : ℕ) (s : List ℕ) (at i field bad : ℕ) (so : LineSoFar w s at 
         lines = so .lines ∙ lines-field s (so .row) i (ToComma c n) e;
         fault = rw (so .fault, ← so .fields) (sym (cells-next (so .row) c));
         codes = rw (append-assoc (so .row) (c ∷ []) (codesAt (w - (field + 1)) s n), ← k)
-        (ap (λ (t : List ℕ). so .row ++ t) (sym (codes-from (w - field) s i c n (omega arith) (ap codeOf e) (ap (nextOf i) e))) ∙ so .codes);
+            (ap (λ (t : List ℕ). so .row ++ t) (sym (codes-from (w - field) s i c n (omega arith) (ap codeOf e) (ap (nextOf i) e))) ∙ so .codes);
         far = omega (arith, so .far);
         most = q;
       }

@@ -2,10 +2,10 @@
 ghost use Prim.Native.Nat.{_+_, _≤_, _<_};
 ghost use lib.ListN.{length};
 ghost use Rattle.importer.specs.Kept.{Collects, Overfull};
-use crate::keeper;
-use crate::liner;
 use crate::Collected;
 use crate::Line;
+use crate::keeper;
+use crate::liner;
 
 // The lines from a place on once more rows are kept than a table may have: a line's own fault, or at the end 6.
 // Nothing is kept any more, since no number of rows helps; but 22 and 24 come first in reading order.

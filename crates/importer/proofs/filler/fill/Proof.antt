@@ -73,10 +73,13 @@ loop-again c =
     let a = st .args in
     let q = suc-mul (l .u) (a .w) in
     let z : suc (l .u) * a .w ≤ a .n * a .w = mul-le-mul-right (a .w) (omega (arith, t .loop-test .taken)) in
-    let e : l .u + 1 ≡ suc (l .u) = omega arith in
-    (omega (arith, t .loop-test .taken), rw e (omega (arith, l .inv .1, q)), omega (arith, c .before .before .fill-row .kept, l .inv .2),
-    l .inv .3 ∙ fill-next (a .w) (a .text .now) (a .places .now) (a .n) (l .u) (l .k) (l .cells) (t .loop-test .taken) (st .pre .0) (omega (arith, l .inv .1, l .inv .2, st .pre .1, q, z))
-    ∙ ap (left-over (a .w) (a .text .now) (a .places .now) (a .n) (l .u + 1) (l .k + a .w)) (sym (c .before .before .fill-row .ensures)))
+    let e : l .u + 1 ≡ suc (l .u) = omega arith in (
+      omega (arith, t .loop-test .taken),
+      rw e (omega (arith, l .inv .1, q)),
+      omega (arith, c .before .before .fill-row .kept, l .inv .2),
+      l .inv .3 ∙ fill-next (a .w) (a .text .now) (a .places .now) (a .n) (l .u) (l .k) (l .cells) (t .loop-test .taken) (st .pre .0) (omega (arith, l .inv .1, l .inv .2, st .pre .1, q, z))
+          ∙ ap (left-over (a .w) (a .text .now) (a .places .now) (a .n) (l .u + 1) (l .k + a .w)) (sym (c .before .before .fill-row .ensures)),
+    )
 
 same-length : tie.Need-same-length Inv-loop μ-loop
 same-length c = search needs

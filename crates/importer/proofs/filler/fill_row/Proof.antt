@@ -47,9 +47,11 @@ loop-again : tie.Need-loop-again Inv-loop μ-loop
 loop-again c =
     let l = c .before .before .loop in
     let a = c .before .before .before .before .before .args in
-    let st = c .before .before .before .before .before in
-    (omega (arith, l .inv .0, c .before .loop-test .taken), length-set (l .cells) (l .k) _ ∙ l .inv .1,
-    l .inv .2 ∙ fill-on (l .cells) (a .text .now) (l .i) (l .k) (l .left) _ (c .before .loop-test .taken) (omega (arith, l .inv .0, l .inv .1, c .before .loop-test .taken, st .pre)) (c .code-at .ensures))
+    let st = c .before .before .before .before .before in (
+      omega (arith, l .inv .0, c .before .loop-test .taken),
+      length-set (l .cells) (l .k) _ ∙ l .inv .1,
+      l .inv .2 ∙ fill-on (l .cells) (a .text .now) (l .i) (l .k) (l .left) _ (c .before .loop-test .taken) (omega (arith, l .inv .0, l .inv .1, c .before .loop-test .taken, st .pre)) (c .code-at .ensures),
+    )
 
 same-length : tie.Need-same-length Inv-loop μ-loop
 same-length c = search needs
