@@ -1,0 +1,1 @@
+-- The whole write. Assumes nothing.
