@@ -1,6 +1,6 @@
 -- The refusals of a table, one law for each way that the checker goes. Assumes nothing.
-use Prim.Native.Nat.{ℕ, zero, suc, _+_, _-_, _*_, _≤_, _<_}
-use native.Mathlib.Nat.{suc-mul}
+use Prim.Native.Nat.{ℕ, zero, suc, _+_, _-_, _*_, _^_, _≤_, _<_}
+use native.Mathlib.Nat.{suc-mul, mul-le-mul}
 use native.Mathlib.Numerals.{sub-one}
 use native.Mathlib.Omega.{arith}
 use mathlib.Core.Path.{_≡_, refl, sym, ap, _∙_}
@@ -8,7 +8,7 @@ use mathlib.Core.Bool.{Bool, true, false, cond, _||_}
 use mathlib.Core.List.{List, [], _∷_}
 use lib.ListN.{length, take, drop, getD}
 use lib.Seq.{drop-drop}
-use lib.Count.{ones}
+use lib.Count.{ones, ones-le}
 use lib.Dec.{ltb}
 use borrow.Author.Tests.{lt-ltb, le-ltb, le-leb, lt-leb}
 use Rattle.laws.specs.Lists.{part}
@@ -89,6 +89,10 @@ room-less zero w h = absurd (omega arith)
 room-less (suc k) w h = rw (sub-one (suc k)) (omega (arith, suc-mul k w))
 
 -- ---- 4, 5, 6, 8
+
+-- A table that meets no 6 has so few cells that their number fits.
+pub text-cells-few : (count x : ℕ) → count ≤ mostTextRows → x < 2 ^ 64 → count * ones x ≤ mostTextRows * 64
+text-cells-few count x h l = mul-le-mul h (ones-le 64 x l)
 
 module _ (m x count lent : ℕ) where
   any : (a : Bool) → (a || true) ≡ true

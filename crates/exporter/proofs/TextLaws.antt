@@ -48,6 +48,14 @@ module _ (codes : List ℕ) (i k : ℕ) where
   unfolding lineText
   line-more z h = rw (part-more i k codes z h)
 
+-- How much longer.
+module _ (codes : List ℕ) (i k : ℕ) (z : 0 < k) (h : i < length codes) where
+  pub rest-length : length (restText (part i k codes)) ≡ 1 + length (cellText (getD codes i 0)) + length (restText (part (i + 1) (k - 1) codes))
+  rest-length = ap length (rest-more codes i k z h) ∙ length-append (comma ∷ cellText (getD codes i 0)) (restText (part (i + 1) (k - 1) codes)) ∙ omega arith
+
+  pub line-length : length (lineText (part i k codes)) ≡ length (cellText (getD codes i 0)) + length (restText (part (i + 1) (k - 1) codes))
+  line-length = ap length (line-more codes i k z h) ∙ length-append (cellText (getD codes i 0)) (restText (part (i + 1) (k - 1) codes))
+
 rest-few : (codes : List ℕ) → length (restText codes) ≤ 21 * length codes + 2
 unfolding restText
 rest-few [] = omega arith
@@ -83,6 +91,10 @@ lines-few (suc k) w cells =
 pub attribute-in : (b : Bool) (c : ℕ) (codes : List ℕ) → codeIf b c codes ≡ codeIf b c [] ++ codes
 attribute-in true c codes = refl
 attribute-in false c codes = refl
+
+pub attribute-few : (b : Bool) (c : ℕ) → length (codeIf b c []) ≤ 1
+attribute-few true c = omega arith
+attribute-few false c = omega arith
 
 pub bit-set : (x c : ℕ) → x % 2 ≡ 1 → codeIf (eqb (x % 2) 1) c [] ≡ c ∷ []
 bit-set x c e = rw (eq-eqb (x % 2) 1 e)
