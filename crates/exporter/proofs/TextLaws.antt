@@ -80,6 +80,10 @@ module _ (w : ℕ) (cells : List ℕ) where
   unfolding linesText
   lines-more k at h = rw (cut-more k w cells at h)
 
+pub lines-length : (k w : ℕ) (cells : List ℕ) (at : ℕ) → 0 < k
+    → length (linesText (cut k w (drop at cells))) ≡ length (lineText (part at w cells)) + length (linesText (cut (k - 1) w (drop (at + w) cells)))
+lines-length k w cells at h = ap length (lines-more w cells k at h) ∙ length-append (lineText (part at w cells)) (linesText (cut (k - 1) w (drop (at + w) cells)))
+
 pub lines-few : (k w : ℕ) (cells : List ℕ) → length (linesText (cut k w cells)) ≤ k * (21 * w + 2)
 unfolding linesText cut
 lines-few zero w cells = omega arith

@@ -1,7 +1,10 @@
+-- `exporter::putter::put_line` meets its contract: the first cell, and the rest behind it. Assumes nothing.
 use native.Mathlib.Omega.{arith}
 use Prim.Native.Nat.{ℕ, _+_, _-_, _*_, _^_, _≤_, _<_}
 use mathlib.Core.Path.{_≡_, refl, sym, ap, _∙_}
-use lib.ListN.{length, getD}
+use lib.ListN.{length}
+use Rattle.laws.proofs.PlacedLaws.{placed-append, placed-length}
+use Rattle.exporter.proofs.TextLaws.{line-more, line-length}
 use borrow.Author.Needs.{needs}
 use Rattle.exporter.proofs.putter.put_line.Statement.{statement}
 use Rattle.exporter.proofs.putter.put_line.Tie as tie
@@ -10,37 +13,43 @@ use Rattle.exporter.proofs.putter.put_line.Lts as lts
 use Rattle.exporter.proofs.putter.put_cell.Reads as put-cell-reads
 use Rattle.exporter.proofs.putter.put_rest.Reads as put-rest-reads
 
--- src/putter.rt:51:27
 mul-put-cell : tie.Need-mul-put-cell
 mul-put-cell c = search needs
 
--- src/putter.rt:51:27
 shared-slice-read-put-cell : tie.Need-shared-slice-read-put-cell
 shared-slice-read-put-cell c = search needs
 
--- src/putter.rt:51:9
 put-cell-requires : tie.Need-put-cell-requires
-put-cell-requires c κs = search needs
+put-cell-requires c κs =
+    let st = c .before .before .before .before in
+    let a = st .args in
+    let k = line-length (a .codes .now) (a .from) (a .w) (st .pre .0) (omega (arith, st .pre)) in
+    omega (arith, st .pre .2, k)
 
--- src/putter.rt:52:21
 add-put-rest : tie.Need-add-put-rest
 add-put-rest c = search needs
 
--- src/putter.rt:52:31
 sub-put-rest : tie.Need-sub-put-rest
 sub-put-rest c = search needs
 
--- src/putter.rt:52:5
 put-rest-requires : tie.Need-put-rest-requires
-put-rest-requires c κs = search needs
+put-rest-requires c κs =
+    let st = c .before .before .before .before .before .before .before .before in
+    let a = st .args in
+    let k = line-length (a .codes .now) (a .from) (a .w) (st .pre .0) (omega (arith, st .pre)) in
+    let p = c .before .before .before .put-cell .ensures in
+    (omega (arith, st .pre), omega (arith, st .pre .2, k, p .next, c .before .before .before .put-cell .kept))
 
--- src/putter.rt:47:1
 same-length : tie.Need-same-length
 same-length c = search needs
 
--- src/putter.rt:47:1
 returns : tie.Need-returns
-returns c = search needs
+returns c =
+    let st = c .before .before .before .before .before .before .before .before .before .before .before in
+    let a = st .args in
+    let k = line-length (a .codes .now) (a .from) (a .w) (st .pre .0) (omega (arith, st .pre)) in
+    rw (line-more (a .codes .now) (a .from) (a .w) (st .pre .0) (omega (arith, st .pre)))
+    (placed-append (omega (arith, st .pre .2, k)) (c .before .before .before .before .before .before .put-cell .ensures) (c .before .before .put-rest .ensures))
 
 pub put-line-spec : {M : Type 1} → statement M
 put-line-spec =
