@@ -14,27 +14,17 @@ pub enum TextWritten {
 
 // Writes a table as text into the front of the lent bytes, and gives its length.
 // A refusal writes nothing, so every check, the length's too, is made before the first byte.
-pub fn write_text(
-    m: usize,
-    scheme: u64,
-    rows: usize,
-    cells: &[u64],
-    out: &mut [u8],
-) -> TextWritten
+pub fn write_text(m: usize, scheme: u64, rows: usize, cells: &[u64], out: &mut [u8]) -> TextWritten
     ensures { λ r. ⌜ WritesText m scheme rows (now (cells .entry)) (now (out .entry)) r (now (out .exit)) ⌝ }
 {
     let f = checker::fault(m, scheme, rows, cells);
     if f != 0 {
         return TextWritten::Refused(f);
     }
-    let w = tables::width(scheme);
-    let mut head: [u64; 64] = [0; 64];
-    header::attributes(m, scheme, &mut head);
-    let len = sizer::line_length(&head, 0, w) + sizer::rows_length(cells, rows, w);
+    let len = sizer::text_length(m, scheme, rows, cells);
     if out.len() < len {
         return TextWritten::Refused(11);
     }
-    let at = putter::put_line(&head, 0, w, out, 0);
-    putter::put_rows(cells, rows, w, out, at);
+    putter::put_text(m, scheme, rows, cells, out);
     TextWritten::Length(len)
 }

@@ -3,9 +3,11 @@ ghost use mathlib.Core.Path.{_≡_};
 ghost use mathlib.Core.List.{_∷_};
 ghost use Prim.Native.Nat.{_+_, _*_, _≤_, _<_};
 ghost use lib.ListN.{length};
-ghost use Rattle.laws.specs.Lists.{part, Placed};
+ghost use Rattle.laws.specs.Lists.{put, part, Placed};
 ghost use Rattle.text.specs.Lines.{comma};
-ghost use Rattle.text.specs.Writing.{cellText, restText, lineText, linesText, cut};
+ghost use lib.Count.{ones};
+ghost use Rattle.text.specs.Writing.{cellText, restText, lineText, linesText, textOf, cut, writeFault};
+use crate::header;
 
 // Puts a cell: the digits of its value, or nothing for null.
 fn put_cell(code: u64, out: &mut [u8], at: usize) -> usize
@@ -66,4 +68,16 @@ pub fn put_rows(cells: &[u64], rows: usize, w: usize, out: &mut [u8], start: usi
         left = left - 1;
     }
     at
+}
+
+// Puts the text of a table that meets no refusal into the front of the bytes: its header, then row by row.
+pub fn put_text(m: usize, scheme: u64, rows: usize, cells: &[u64], out: &mut [u8])
+    requires { ⌜ (writeFault m scheme rows (now cells) ≡ 0) × (length (textOf m scheme (cut rows (ones scheme) (now cells))) ≤ length (now out)) ⌝ }
+    ensures { λ _. ⌜ now (out .exit) ≡ put (textOf m scheme (cut rows (ones scheme) (now (cells .entry)))) (now (out .entry)) ⌝ }
+{
+    let w = tables::width(scheme);
+    let mut head: [u64; 64] = [0; 64];
+    header::attributes(m, scheme, &mut head);
+    let at = put_line(&head, 0, w, out, 0);
+    put_rows(cells, rows, w, out, at);
 }

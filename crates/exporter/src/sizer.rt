@@ -4,7 +4,9 @@ ghost use Prim.Native.Nat.{_+_, _*_, _≤_, _<_};
 ghost use lib.ListN.{length};
 ghost use Rattle.laws.specs.Lists.{part};
 ghost use Rattle.text.specs.Reading.{mostTextRows};
-ghost use Rattle.text.specs.Writing.{cellText, lineText, linesText, cut};
+ghost use lib.Count.{ones};
+ghost use Rattle.text.specs.Writing.{cellText, lineText, linesText, textOf, cut, writeFault};
+use crate::header;
 
 // How many bytes a cell takes.
 fn cell_length(code: u64) -> usize
@@ -46,4 +48,16 @@ pub fn rows_length(cells: &[u64], rows: usize, w: usize) -> usize
         left = left - 1;
     }
     sum
+}
+
+// How many bytes the text of a table takes that meets no refusal.
+pub fn text_length(m: usize, scheme: u64, rows: usize, cells: &[u64]) -> usize
+    requires { ⌜ writeFault m scheme rows (now cells) ≡ 0 ⌝ }
+    ensures { λ r. ⌜ r ≡ length (textOf m scheme (cut rows (ones scheme) (now (cells .entry)))) ⌝ }
+{
+    let w = tables::width(scheme);
+    let mut head: [u64; 64] = [0; 64];
+    header::attributes(m, scheme, &mut head);
+    let first = line_length(&head, 0, w);
+    first + rows_length(cells, rows, w)
 }

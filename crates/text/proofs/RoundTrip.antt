@@ -80,7 +80,7 @@ cut-wide (suc k) w cells h y m =
 -- ---- the whole
 
 -- A scheme that is not 0 has an attribute.
-some-code : (codes : List ℕ) → 0 < schemeFrom codes → 0 < length codes
+pub some-code : (codes : List ℕ) → 0 < schemeFrom codes → 0 < length codes
 unfolding schemeFrom
 some-code [] h = h
 some-code (c ∷ codes) h = omega arith

@@ -136,7 +136,7 @@ module _ (m x count lent : ℕ) where
   either true = refl
   either false = refl
 
-  table-says : {k : ℕ} → TableMeets m x count lent k → tableFault m x count lent ≡ k
+  pub table-says : {k : ℕ} → TableMeets m x count lent k → tableFault m x count lent ≡ k
   unfolding tableFault badScheme
   table-says (m-bad (inl h)) = rw (lt-ltb m 1 h)
   table-says (m-bad (inr h)) = rw (lt-ltb mostAttributes m h, either (ltb m 1))
@@ -154,7 +154,7 @@ module _ (m x count lent : ℕ) where
       let z : x ≡ 0 → ⊥ = omega arith in
       rw (le-ltb m 1 (p .some), le-ltb mostAttributes m (p .attributes), ne-eqb x 0 z, lt-leb (2 ^ m) x (p .scheme-low), le-ltb mostTextRows count (p .rows), le-ltb mostCells (count * ones x) (p .most), le-ltb lent (count * ones x) (p .fits))
 
-  table-some : {k : ℕ} → TableMeets m x count lent k → 0 < k
+  pub table-some : {k : ℕ} → TableMeets m x count lent k → 0 < k
   table-some (m-bad h) = omega arith
   table-some (scheme-bad a b h) = omega arith
   table-some (rows-many a b c d h) = omega arith

@@ -1,7 +1,11 @@
+-- `exporter::checker::fault` meets its contract: the table's own refusal, then its rows'. Assumes nothing.
 use native.Mathlib.Omega.{arith}
 use Prim.Native.Nat.{ℕ, _+_, _-_, _*_, _^_, _≤_, _<_}
 use mathlib.Core.Path.{_≡_, refl, sym, ap, _∙_}
-use lib.ListN.{length, getD}
+use lib.ListN.{length}
+use Rattle.text.specs.Writing.{tableFault}
+use Rattle.exporter.proofs.CheckLaws.{fault-first, fault-rows}
+use Rattle.exporter.proofs.WriteLaws.{no-fault}
 use borrow.Author.Needs.{needs}
 use Rattle.exporter.proofs.checker.fault.Statement.{statement}
 use Rattle.exporter.proofs.checker.fault.Tie as tie
@@ -11,25 +15,29 @@ use Rattle.exporter.proofs.checker.rows_fault.Reads as rows-fault-reads
 use Rattle.exporter.proofs.checker.table_fault.Reads as table-fault-reads
 use Rattle.tables.proofs.width.Reads as width-reads
 
--- src/checker.rt:82:9
 table-fault-requires : tie.Need-table-fault-requires
 table-fault-requires c κs = search needs
 
--- src/checker.rt:84:9
 returns : tie.Need-returns
-returns c = search needs
+returns c =
+    let a = c .before .before .before .args in
+    let e = c .before .table-fault .ensures in
+    e ∙ sym (fault-first (a .m) (a .scheme) (a .rows) (a .cells .now) (rw (← e) (omega (arith, c .if1 .taken))))
 
--- src/checker.rt:86:29
 width-requires : tie.Need-width-requires
 width-requires c κs = search needs
 
--- src/checker.rt:86:5
 rows-fault-requires : tie.Need-rows-fault-requires
-rows-fault-requires c κs = search needs
+rows-fault-requires c κs =
+    let a = c .before .before .before .before .args in
+    let e : tableFault (a .m) (a .scheme) (a .rows) (length (a .cells .now)) ≡ 0 = omega (arith, c .before .before .table-fault .ensures, c .before .if1 .left) in
+    rw (c .width .ensures) (no-fault (a .m) (a .scheme) (a .rows) (length (a .cells .now)) e .fits)
 
--- src/checker.rt:79:1
 returns-2 : tie.Need-returns-2
-returns-2 c = search needs
+returns-2 c =
+    let a = c .before .before .before .before .before .args in
+    let e : tableFault (a .m) (a .scheme) (a .rows) (length (a .cells .now)) ≡ 0 = omega (arith, c .before .before .before .table-fault .ensures, c .before .before .if1 .left) in
+    (rw (c .before .width .ensures) at (c .rows-fault .ensures)) ∙ sym (fault-rows (a .m) (a .scheme) (a .rows) (a .cells .now) e)
 
 pub fault-spec : {M : Type 1} → statement M
 fault-spec =

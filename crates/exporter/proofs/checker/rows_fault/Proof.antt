@@ -44,9 +44,10 @@ sub-left c = search needs
 loop-holds : tie.Need-loop-holds Inv-loop μ-loop
 loop-holds c =
     let st = c .before .before .before .before in
-    let a = st .args in
-    (omega (arith, st .pre, room-less (a .rows) (a .w) (omega (arith, c .before .before .if1 .left))),
-    all-first (a .cells .now) (a .w) (a .rows) (omega (arith, c .before .before .if1 .left)) (sym (c .before .code-high .ensures) ∙ c .if2 .left))
+    let a = st .args in (
+      omega (arith, st .pre, room-less (a .rows) (a .w) (omega (arith, c .before .before .if1 .left))),
+      all-first (a .cells .now) (a .w) (a .rows) (omega (arith, c .before .before .if1 .left)) (sym (c .before .code-high .ensures) ∙ c .if2 .left),
+    )
 
 add-at : tie.Need-add-at Inv-loop μ-loop
 add-at c =

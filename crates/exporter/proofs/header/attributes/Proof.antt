@@ -51,9 +51,12 @@ loop-again c =
     let p = c .before .before .put-attribute .ensures in
     let few = attribute-few (eqb (l .x % 2) 1) (l .a + 1) in
     let room : l .k + length (codeIf (eqb (l .x % 2) 1) (l .a + 1) []) ≤ length (l .codes) = omega (arith, few, l .inv, t .loop-test .taken, st .pre) in
-    let e : a .m - l .a - 1 ≡ a .m - (l .a + 1) = omega arith in
-    (omega (arith, t .loop-test .taken), omega (arith, p .next, few, l .inv .1), placed-length room p ∙ l .inv .2,
-    l .inv .3 ∙ rw (attributes-more (a .m - l .a) (l .a) (l .x) (omega (arith, t .loop-test .taken)), e) (placed-rest room p _))
+    let e : a .m - l .a - 1 ≡ a .m - (l .a + 1) = omega arith in (
+      omega (arith, t .loop-test .taken),
+      omega (arith, p .next, few, l .inv .1),
+      placed-length room p ∙ l .inv .2,
+      l .inv .3 ∙ rw (attributes-more (a .m - l .a) (l .a) (l .x) (omega (arith, t .loop-test .taken)), e) (placed-rest room p _),
+    )
 
 same-length : tie.Need-same-length Inv-loop μ-loop
 same-length c = search needs

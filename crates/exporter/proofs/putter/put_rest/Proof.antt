@@ -60,9 +60,12 @@ loop-again c =
     let t = c .before .before .before .before .before .loop-test .taken in
     let p = c .before .before .put-next .ensures in
     let k = rest-length s (l .i) (l .left) t (omega (arith, l .inv .0, t)) in
-    let room : l .at + length (comma ∷ cellText (getD s (l .i) 0)) ≤ length (l .out) = omega (arith, l .inv, st .pre .1, k) in
-    (omega (arith, l .inv .0, t), placed-length room p ∙ l .inv .1, omega (arith, p .next, l .inv .2, k),
-    l .inv .3 ∙ rw (rest-more s (l .i) (l .left) t (omega (arith, l .inv .0, t))) (placed-rest room p _))
+    let room : l .at + length (comma ∷ cellText (getD s (l .i) 0)) ≤ length (l .out) = omega (arith, l .inv, st .pre .1, k) in (
+      omega (arith, l .inv .0, t),
+      placed-length room p ∙ l .inv .1,
+      omega (arith, p .next, l .inv .2, k),
+      l .inv .3 ∙ rw (rest-more s (l .i) (l .left) t (omega (arith, l .inv .0, t))) (placed-rest room p _),
+    )
 
 slice-aggregate-put-word : tie.Need-slice-aggregate-put-word Inv-loop μ-loop
 slice-aggregate-put-word c = search needs

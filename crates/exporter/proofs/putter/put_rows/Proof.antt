@@ -64,9 +64,12 @@ loop-again c =
     let q = room-less (l .left) (a .w) t in
     let k = lines-length (l .left) (a .w) (a .cells .now) (l .from) t in
     let p = c .before .before .put-line .ensures in
-    let room : l .at + length (lineText (part (l .from) (a .w) (a .cells .now))) ≤ length (l .out) = omega (arith, l .inv, st .pre .2, k) in
-    (omega (arith, l .inv .0, q), placed-length room p ∙ l .inv .1, omega (arith, p .next, l .inv .2, k),
-    l .inv .3 ∙ rw (lines-more (a .w) (a .cells .now) (l .left) (l .from) t) (placed-rest room p _))
+    let room : l .at + length (lineText (part (l .from) (a .w) (a .cells .now))) ≤ length (l .out) = omega (arith, l .inv, st .pre .2, k) in (
+      omega (arith, l .inv .0, q),
+      placed-length room p ∙ l .inv .1,
+      omega (arith, p .next, l .inv .2, k),
+      l .inv .3 ∙ rw (lines-more (a .w) (a .cells .now) (l .left) (l .from) t) (placed-rest room p _),
+    )
 
 same-length : tie.Need-same-length Inv-loop μ-loop
 same-length c = search needs
