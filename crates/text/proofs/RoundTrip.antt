@@ -61,7 +61,7 @@ rows-are w (r ∷ rows) h l =
 
 -- ---- rows that are cut
 
-length-cut : (k w : ℕ) (cells : List ℕ) → length (cut k w cells) ≡ k
+pub length-cut : (k w : ℕ) (cells : List ℕ) → length (cut k w cells) ≡ k
 unfolding cut
 length-cut zero w cells = refl
 length-cut (suc k) w cells = ap suc (length-cut k w (drop w cells))
