@@ -4,7 +4,7 @@ use native.Mathlib.Nat.{suc-mul, mul-le-mul}
 use native.Mathlib.Numerals.{sub-one}
 use native.Mathlib.Omega.{arith}
 use mathlib.Core.Path.{_≡_, refl, sym, ap, _∙_}
-use mathlib.Core.Bool.{Bool, true, false, cond, _||_}
+use mathlib.Core.Bool.{true, false}
 use mathlib.Core.List.{List, [], _∷_}
 use lib.ListN.{length, take, drop, getD}
 use lib.Seq.{drop-drop}
@@ -13,6 +13,7 @@ use lib.Dec.{ltb}
 use borrow.Author.Tests.{lt-ltb, le-ltb, le-leb, lt-leb}
 use Rattle.laws.specs.Lists.{part}
 use Rattle.laws.proofs.ListLaws.{part-none, part-more}
+use Rattle.laws.proofs.TestLaws.{or-right}
 use Rattle.tables.specs.Sizes.{mostAttributes, mostCells}
 use Rattle.tables.specs.Rows.{below}
 use Rattle.tables.specs.Checks.{firstOf, badScheme}
@@ -95,17 +96,13 @@ pub text-cells-few : (count x : ℕ) → count ≤ mostTextRows → x < 2 ^ 64 �
 text-cells-few count x h l = mul-le-mul h (ones-le 64 x l)
 
 module _ (m x count lent : ℕ) where
-  any : (a : Bool) → (a || true) ≡ true
-  any true = refl
-  any false = refl
-
   pub m-low : m < 1 → tableFault m x count lent ≡ 4
   unfolding tableFault
   m-low h = rw (lt-ltb m 1 h)
 
   pub m-high : mostAttributes < m → tableFault m x count lent ≡ 4
   unfolding tableFault
-  m-high h = rw (lt-ltb mostAttributes m h, any (ltb m 1))
+  m-high h = rw (lt-ltb mostAttributes m h, or-right (ltb m 1) {b = true} refl)
 
   module _ (a : 1 ≤ m) (b : m ≤ mostAttributes) where
     pub scheme-out : badScheme m x ≡ true → tableFault m x count lent ≡ 5
@@ -125,7 +122,7 @@ module _ (m x count lent : ℕ) where
         pub cells-short : lent < count * ones x → tableFault m x count lent ≡ 8
         unfolding tableFault
         cells-short h =
-            rw (le-ltb m 1 a, le-ltb mostAttributes m b, e, le-ltb mostTextRows count few, lt-ltb lent (count * ones x) h, any (ltb mostCells (count * ones x)))
+            rw (le-ltb m 1 a, le-ltb mostAttributes m b, e, le-ltb mostTextRows count few, lt-ltb lent (count * ones x) h, or-right (ltb mostCells (count * ones x)) {b = true} refl)
 
         pub table-good : count * ones x ≤ mostCells → count * ones x ≤ lent → tableFault m x count lent ≡ 0
         unfolding tableFault

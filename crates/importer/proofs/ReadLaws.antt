@@ -2,12 +2,13 @@
 use Prim.Native.Nat.{ℕ, _+_, _*_, _≤_, _<_}
 use native.Mathlib.Omega.{arith}
 use mathlib.Core.Path.{_≡_, refl, sym, ap, subst, _∙_}
-use mathlib.Core.Bool.{Bool, true, false, _||_}
+use mathlib.Core.Bool.{true}
 use mathlib.Core.List.{List, []}
 use lib.ListN.{length, take, drop}
 use lib.Seq.{length-take-le}
 use lib.Dec.{ltb}
 use borrow.Author.Tests.{lt-ltb, le-ltb}
+use Rattle.laws.proofs.TestLaws.{or-right}
 use Rattle.tables.specs.Sizes.{mostAttributes, mostCells}
 use Rattle.text.specs.declared.Form.the-variants.{AtStart}
 use Rattle.text.specs.Lines.{linesFrom}
@@ -28,17 +29,13 @@ use Rattle.importer.proofs.PlacesLaws.{length-rows}
 -- ---- 8, or the table
 
 module _ (room x w n : ℕ) (rows : List (List ℕ)) (e : length rows ≡ n) (few : n ≤ mostTextRows) where
-  any : (a : Bool) → (a || true) ≡ true
-  any true = refl
-  any false = refl
-
   most-8 : mostCells < n * w → counted room x w rows ≡ refused 8 0 0
   unfolding counted
   most-8 h = rw (e, le-ltb mostTextRows n few, lt-ltb mostCells (n * w) h)
 
   room-8 : room < n * w → counted room x w rows ≡ refused 8 0 0
   unfolding counted
-  room-8 h = rw (e, le-ltb mostTextRows n few, lt-ltb room (n * w) h, any (ltb mostCells (n * w)))
+  room-8 h = rw (e, le-ltb mostTextRows n few, lt-ltb room (n * w) h, or-right (ltb mostCells (n * w)) {b = true} refl)
 
   good : n * w ≤ mostCells → n * w ≤ room → counted room x w rows ≡ table x rows
   unfolding counted
