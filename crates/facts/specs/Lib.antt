@@ -1,0 +1,4 @@
+pub mod Filing
+pub mod Front
+pub mod Worked
+pub mod FrontPage
