@@ -88,21 +88,21 @@ handed-key (u ∷ l) k m = go (u .says) refl m (handed-key l k)
 
 -- Where open refused nothing the tables are lawful, and demand 2 holds of the calls after it.
 module _ (cat : Catalogue) (cells : List ℕ) (o : Beginning cat cells) (free : o .answer .refusal ≡ 0) where
-  open-free : opening cat cells (o .keys) (o .left) (o .right) .refusal ≡ 0
+  open-free : opening cat cells (o .low) (o .high) (o .left) (o .right) .refusal ≡ 0
   open-free = sym (ap (λ (x : Opened). x .refusal) (o .opens)) ∙ free
 
   open-lawful : Lawful cat (length cells)
-  open-lawful = opens-iff cat cells everySet (o .keys) (o .left) (o .right) .0 open-free .0
+  open-lawful = opens-iff cat cells everySet (o .low) (o .high) (o .left) (o .right) .0 open-free .0
 
   open-demand : Demand2 cat cells everySet (call cat cells) (streamOf cat cells o)
   open-demand =
       subst (λ (x : Opened). Demand2 cat cells everySet (call cat cells) (x .after)) (sym (o .opens))
-      (demands cat cells everySet (o .keys) (o .left) (o .right) open-free .0)
+      (demands cat cells everySet (o .low) (o .high) (o .left) (o .right) open-free .0)
 
 -- A lawful catalogue is taken by an open that has a record.
 opens-taken : (cat : Catalogue) (cells : List ℕ) → Lawful cat (length cells) → (o : Beginning cat cells) → 0 < recordsOf cat cells o → o .answer .refusal ≡ 0
 opens-taken cat cells L o room =
-    ap (λ (x : Opened). x .refusal) (o .opens) ∙ opens-iff cat cells everySet (o .keys) (o .left) (o .right) .1 (L, tt, λ n. room)
+    ap (λ (x : Opened). x .refusal) (o .opens) ∙ opens-iff cat cells everySet (o .low) (o .high) (o .left) (o .right) .1 (L, tt, λ n. room)
 
 module _ (cat : Catalogue) (cells : List ℕ) (l : List Called) (D : Drained cat cells l) where
   demand : Demand2 cat cells everySet (call cat cells) (streamOf cat cells (D .opened))

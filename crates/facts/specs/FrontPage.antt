@@ -35,23 +35,25 @@ use Rattle.facts.specs.Worked.{pair, pairCells, twice, twiceCells, NullC
 
 -- A call that opened a stream of every set on these tables: the store that was lent, what the call answered, and what the store's lists then hold.
 pub record Beginning (cat : Catalogue) (cells : List ℕ) : Type 0 where
-  pub keys : List ℕ
+  pub low : List ℕ
+  pub high : List ℕ
   pub left : List ℕ
   pub right : List ℕ
   pub answer : OpenAnswer
-  pub keys′ : List ℕ
+  pub low′ : List ℕ
+  pub high′ : List ℕ
   pub left′ : List ℕ
   pub right′ : List ℕ
-  pub opens : Opens cat cells keys left right answer keys′ left′ right′
+  pub opens : Opens cat cells low high left right answer low′ high′ left′ right′
 
 module _ (cat : Catalogue) (cells : List ℕ) where
   -- How many records the store has room for.
   abbrev pub recordsOf : Beginning cat cells → ℕ
-  recordsOf o = roomIn (storeIn (o .keys) (o .left) (o .right) 0)
+  recordsOf o = roomIn (storeIn (o .low) (o .high) (o .left) (o .right) 0)
 
   -- The stream that it left.
   abbrev pub streamOf : Beginning cat cells → State
-  streamOf o = stateOf (o .answer .stream) (o .keys′) (o .left′) (o .right′)
+  streamOf o = stateOf (o .answer .stream) (o .low′) (o .high′) (o .left′) (o .right′)
 
   -- A stream was opened without refusal and called, by public calls in a row, until one told the end; l are all their answers.
   pub record Drained (l : List Called) : Type 0 where
