@@ -13,7 +13,7 @@ use Rattle.tables.specs.Sample.{sampleBytes, three, threeCells}
 use Rattle.tables.specs.Catalogues.{firstCell, touch, touchingBelow, forTables, rowStart, rowsBefore}
 use Rattle.tables.specs.Rows.{below}
 use Rattle.tables.specs.Checks.{sizeFault, badScheme, countFault, tableFault, tablesFault, shapeFault, misstored, storedFault, catalogueFault}
-use Rattle.tables.specs.Versions.{mostRowsIn, needless}
+use Rattle.tables.specs.Versions.{mostRowsIn, needless, blank}
 use Rattle.disjunction.specs.Rule.{rowsTo, rowsBelow, member, absent, near, agrees, rowTest, walk, grow, extension, stays, dropped, alone, joins, membersBelow, piece, start, trial}
 use Rattle.disjunction.specs.Cells.{same, sharing, matching, gives, codeBelow, padded}
 use Rattle.rows.specs.World.{touchesIn, fitsIn}
@@ -24,7 +24,7 @@ use Rattle.loader.specs.Reading.{runEnd, codes, rowsFrom}
 use Rattle.loader.specs.declared.Loaded.{Loaded}
 use Rattle.image.specs.RoundTrip.{found}
 use Rattle.loader.specs.Load.{firstTable, cellsAfter, fieldAt, countAt, tableAt, tablesEnd, tablesFrom, scanOf, tablesCodes}
-use Rattle.image.proofs.Edges.{number-edges, image-edges, version-edges}
+use Rattle.image.proofs.Edges.{number-edges, image-edges, version-edges, null-edges}
 use Rattle.machine.specs.Machine.{placed, offered, trialOn, handOut, dueOr, work, unfit, callFault, call, openFault, begun, openingFor}
 use Rattle.machine.specs.Runs.{runOf, handed}
 use Rattle.claims.specs.Edges.{callsOn, saysIn, Edges, SampleLoads}
@@ -32,7 +32,7 @@ use Rattle.claims.specs.Edges.{callsOn, saysIn, Edges, SampleLoads}
 -- ---- the sample
 
 sample-scanned : (scanOf sampleBytes mostCells ≡ found three) × (tablesCodes 3 sampleBytes firstTable ≡ threeCells)
-unfolding sampleBytes three threeCells decode ones onesIn firstCell touch touchingBelow forTables tab badScheme countFault mostRowsIn needless below runEnd codes rowsFrom fieldAt countAt tableAt tablesEnd tablesFrom scanOf tablesCodes
+unfolding sampleBytes three threeCells decode ones onesIn firstCell touch touchingBelow forTables tab badScheme countFault mostRowsIn needless blank below runEnd codes rowsFrom fieldAt countAt tableAt tablesEnd tablesFrom scanOf tablesCodes
 sample-scanned = (refl, refl)
 
 pub sample-loads : SampleLoads
@@ -47,12 +47,13 @@ sample-loads lent after r h l =
 -- ---- the list
 
 pub edges : Edges
-unfolding callsOn saysIn handed runOf call callFault work unfit dueOr handOut trialOn offered placed answerOf storeAfter added Store.named searchOf Store.walk linkOf openingFor openFault begun catalogueFault shapeFault storedFault misstored touchingBelow touch forTables sizeFault tablesFault tableFault badScheme countFault firstCell rowStart rowsBefore named missing beyond rowsIn rowOf keyOf filed bitOf ones onesIn touchesIn fitsIn sharing matching same trial start piece joins membersBelow dropped stays tab extension grow walk rowTest near agrees absent member rowsBelow rowsTo alone any all padded codeBelow gives decode mostRowsIn needless below runEnd codes rowsFrom fieldAt countAt tableAt tablesEnd tablesFrom scanOf tablesCodes
+unfolding callsOn saysIn handed runOf call callFault work unfit dueOr handOut trialOn offered placed answerOf storeAfter added Store.named searchOf Store.walk linkOf openingFor openFault begun catalogueFault shapeFault storedFault misstored touchingBelow touch forTables sizeFault tablesFault tableFault badScheme countFault firstCell rowStart rowsBefore named missing beyond rowsIn rowOf keyOf filed bitOf ones onesIn touchesIn fitsIn sharing matching same trial start piece joins membersBelow dropped stays tab extension grow walk rowTest near agrees absent member rowsBelow rowsTo alone any all padded codeBelow gives decode mostRowsIn needless blank below runEnd codes rowsFrom fieldAt countAt tableAt tablesEnd tablesFrom scanOf tablesCodes
 edges =
     record {
       numbers = number-edges;
       images = image-edges;
       versions = version-edges;
+      nulls = null-edges;
       at-once = refl;
       one-set = refl;
       its-key = refl;

@@ -154,11 +154,12 @@ module _ (words cells out : List ℕ) (r : ℕ) (out′ : List ℕ) (c : WriteCa
   write-low : (k : ℕ) → says ≡ Written.Refused k → k < tooFewWords
   write-low k e = by (write-exact (catalogueIn words) cells (length out) .no-other k e)
     where
-      by : OfCatalogue k ⊎ (k ≡ 10) ⊎ (k ≡ 7) ⊎ (k ≡ 11) → k < tooFewWords
+      by : OfCatalogue k ⊎ (k ≡ 10) ⊎ (k ≡ 21) ⊎ (k ≡ 7) ⊎ (k ≡ 11) → k < tooFewWords
       by (inl x) = omega (arith, of-catalogue-low k x)
       by (inr (inl e)) = omega arith
       by (inr (inr (inl e))) = omega arith
-      by (inr (inr (inr e))) = omega arith
+      by (inr (inr (inr (inl e)))) = omega arith
+      by (inr (inr (inr (inr e)))) = omega arith
 
   write-apart : writtenNumber says ≡ tooFewWords → ⊥
   write-apart = by says refl

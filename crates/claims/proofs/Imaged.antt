@@ -1,19 +1,16 @@
 -- What the loader accepts is lawful, so open refuses none of it and the demands hold of it; the two round trips of crate image; and the
 -- version is an image's first byte. Assumes nothing.
-use Prim.Native.Nat.{ℕ, _≤_, _<_}
+use Prim.Native.Nat.{ℕ, _<_}
 use native.Mathlib.Omega.{arith}
 use mathlib.Core.Path.{_≡_, refl, sym, ap, subst, _∙_}
-use mathlib.Core.Logic.{_↔_}
-use mathlib.Core.Bool.{Bool, true, false}
 use mathlib.Core.List.{List}
 use lib.ListN.{length, getD}
 use Rattle.tables.specs.declared.Catalogue.{Catalogue}
 use Rattle.laws.specs.Lists.{put}
 use Rattle.numbers.proofs.EncodeLaws.{encode-last}
-use Rattle.tables.specs.Sizes.{mostRowsOne, versionOne, versionTwo}
-use Rattle.tables.specs.Catalogues.{countOf, total}
-use Rattle.tables.specs.Versions.{someLong, versionOf}
-use Rattle.tables.proofs.VersionLaws.{long-some, long-none, some-long, none-long, version-two, version-one, version-few}
+use Rattle.tables.specs.Catalogues.{total}
+use Rattle.tables.specs.Versions.{versionOf}
+use Rattle.tables.proofs.VersionLaws.{version-few}
 use Rattle.writer.specs.Write.{imageOf}
 use Rattle.tables.specs.Checks.{Lawful}
 use Rattle.disjunction.specs.Asked.{Asked, everySet, everyWith}
@@ -24,6 +21,7 @@ use Rattle.image.proofs.RoundTrip.{written-loads, loads-accepted, loaded-writes
 use Rattle.claims.specs.Demands.{Demand2, Demand3}
 use Rattle.claims.specs.CallsInRow.{InRow}
 use Rattle.claims.specs.Images.{Streamed, FromOpen, LoadedDemands, RoundTrips, Carries}
+use Rattle.claims.proofs.VersionExactly.{carries-two, carries-one}
 use Rattle.claims.proofs.Opens.{opens-iff}
 use Rattle.claims.proofs.InARow.{Ran, in-row-ran}
 use Rattle.claims.proofs.Demanded.{demands}
@@ -77,20 +75,6 @@ round-trips =
 first-byte : (cat : Catalogue) (cells out : List ℕ) → getD (put (imageOf cat cells) out) 0 0 ≡ versionOf cat
 unfolding imageOf
 first-byte cat cells out = rw (encode-last (versionOf cat) (omega (arith, version-few cat))) refl
-
-carries-two : (cat : Catalogue) → (versionOf cat ≡ versionTwo) ↔ ((t : ℕ) × (t < cat .n) × (mostRowsOne < countOf cat t))
-carries-two cat = (λ e. by e (someLong cat) refl, λ (t, l, h). version-two cat (long-some cat t l h))
-  where
-    by : versionOf cat ≡ versionTwo → (b : Bool) → someLong cat ≡ b → (t : ℕ) × (t < cat .n) × (mostRowsOne < countOf cat t)
-    by e true h = some-long cat h
-    by e false h = absurd (omega (arith, e, version-one cat h))
-
-carries-one : (cat : Catalogue) → (versionOf cat ≡ versionOne) ↔ ((t : ℕ) → t < cat .n → countOf cat t ≤ mostRowsOne)
-carries-one cat = (λ e. by e (someLong cat) refl, λ h. version-one cat (long-none cat h))
-  where
-    by : versionOf cat ≡ versionOne → (b : Bool) → someLong cat ≡ b → (t : ℕ) → t < cat .n → countOf cat t ≤ mostRowsOne
-    by e true h = absurd (omega (arith, e, version-two cat h))
-    by e false h = none-long cat h
 
 pub carries : Carries
 carries =

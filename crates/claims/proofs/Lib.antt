@@ -22,6 +22,7 @@ pub mod LoadExactly
 pub mod ScanLaws
 pub mod CatalogueExactly
 pub mod CallExactly
+pub mod VersionExactly
 pub mod RowsExactly
 pub mod WriteExactly
 pub mod InARow

@@ -14,7 +14,7 @@ use Rattle.numbers.specs.declared.Reading.the-variants.{Number, NumberFault}
 use Rattle.numbers.specs.Numbers.{decode}
 use Rattle.tables.specs.Sizes.{mostAttributes, mostTables, mostCells, versionOne, versionTwo}
 use Rattle.tables.specs.Versions.{mostRowsIn}
-use Rattle.tables.specs.Rows.{below}
+use Rattle.tables.specs.Rows.{below, allNull}
 use Rattle.loader.specs.declared.Fault.{Fault}
 use Rattle.loader.specs.declared.Verdict.{Verdict}
 use Rattle.loader.specs.declared.Verdict.the-variants.{Good, Refused}
@@ -23,7 +23,7 @@ use Rattle.loader.specs.Load.{scanOf}
 use Rattle.verdicts.specs.Number.{doorNumber}
 use Rattle.door.specs.Door.{checkOf}
 use Rattle.door.proofs.DoorLaws.{door-tells}
-use Rattle.claims.specs.LoadRefusals.{Before, none, rowAt, Due, theVersion, attributes, tables, table, rowCount, rows, cells, longer, NumberDue, version-is, m-is, n-is, scheme-is, count-is, row-begins, cell-is, row-rises, rows-end, Meets, number, other-version, m-out, n-out, bad-scheme, many-rows, many-cells, not-rising, surplus, no-need, Reaches, start, on, FirstFault, ReadWhole, LoadExact, CheckExact}
+use Rattle.claims.specs.LoadRefusals.{Before, none, rowAt, Due, theVersion, attributes, tables, table, rowCount, rows, cells, longer, NumberDue, Valued, version-is, m-is, n-is, scheme-is, count-is, row-begins, cell-is, row-rises, rows-end, Meets, number, other-version, m-out, n-out, bad-scheme, many-rows, many-cells, all-null, not-rising, surplus, no-need, Reaches, start, on, FirstFault, ReadWhole, LoadExact, CheckExact}
 use Rattle.claims.proofs.NumberExactly.{number-exact}
 use Rattle.claims.proofs.LoadSays.{fault-refused, whole-good}
 
@@ -51,14 +51,24 @@ module _ (s : List ℕ) (room : ℕ) where
     through-cells c b p (suc w) go i r =
         read (cells v m k u l x c b p (suc w)) i tt r (λ d j e. through-cells c b p w go j (on r (cell-is e)))
 
-    row-end : (c : ℕ) (b : Before) (p : ℕ) → ((j : ℕ) → Reaches s room (rows v m k u l x c (rowAt p)) j → Ended)
+    -- Behind the last cell of a row that has a value, or may be without one.
+    row-order : (c : ℕ) (b : Before) (p : ℕ) → Valued s v (ones x) p → ((j : ℕ) → Reaches s room (rows v m k u l x c (rowAt p)) j → Ended)
         → (i : ℕ) → Reaches s room (cells v m k u l x c b p 0) i → Ended
-    row-end c none p go i r = go i (on r (row-rises tt))
-    row-end c (rowAt q) p go i r = by (below (codes (ones x) s q) (codes (ones x) s p)) refl
+    row-order c none p f go i r = go i (on r (row-rises f tt))
+    row-order c (rowAt q) p f go i r = by (below (codes (ones x) s q) (codes (ones x) s p)) refl
       where
         by : (t : Bool) → below (codes (ones x) s q) (codes (ones x) s p) ≡ t → Ended
-        by true h = go i (on r (row-rises h))
-        by false h = met r (not-rising h)
+        by true h = go i (on r (row-rises f h))
+        by false h = met r (not-rising f h)
+
+    row-end : (c : ℕ) (b : Before) (p : ℕ) → ((j : ℕ) → Reaches s room (rows v m k u l x c (rowAt p)) j → Ended)
+        → (i : ℕ) → Reaches s room (cells v m k u l x c b p 0) i → Ended
+    row-end c b p go i r = by (allNull (codes (ones x) s p)) refl (ℕ-discrete v versionTwo)
+      where
+        by : (t : Bool) → allNull (codes (ones x) s p) ≡ t → Dec (v ≡ versionTwo) → Ended
+        by false h d = row-order c b p (λ e. h) go i r
+        by true h (yes e) = met (subst (λ (w : ℕ). Reaches s room (cells w m k u l x c b p 0) i) e r) (all-null h)
+        by true h (no e) = row-order c b p (λ z. absurd (e z)) go i r
 
     through-rows : (c : ℕ) (b : Before) → ((j : ℕ) → Reaches s room (table v m k u l) j → Ended) → (i : ℕ) → Reaches s room (rows v m k u l x c b) i → Ended
     through-rows zero b go i r = go i (on r rows-end)
@@ -75,7 +85,8 @@ module _ (s : List ℕ) (room : ℕ) where
           | no a ↦ elim (decLt room (u + c * ones x)) [
             | yes b ↦ met r (many-cells e (omega arith) (inr b))
             | no b ↦
-                through-rows v m k (u + c * ones x) (longer c l) x c none (go (u + c * ones x) (longer c l)) j (on r (count-is e (omega arith) (omega arith) (omega arith)))
+                through-rows v m k (u + c * ones x) (longer c l) x c none (go (u + c * ones x) (longer c l)) j
+                (on r (count-is e (omega arith) (omega arith) (omega arith)))
           ]
         ]
       ]
@@ -177,7 +188,8 @@ some-refusal s room (n-out e h) = omega arith
 some-refusal s room (bad-scheme e h) = omega arith
 some-refusal s room (many-rows e h) = omega arith
 some-refusal s room (many-cells e h a) = omega arith
-some-refusal s room (not-rising h) = omega arith
+some-refusal s room (all-null h) = omega arith
+some-refusal s room (not-rising g h) = omega arith
 some-refusal s room (surplus h) = omega arith
 some-refusal s room (no-need h) = omega arith
 

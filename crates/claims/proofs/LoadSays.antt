@@ -18,7 +18,8 @@ use Rattle.laws.specs.Tests.{any}
 use Rattle.numbers.specs.declared.Reading.the-variants.{Number, NumberFault}
 use Rattle.numbers.specs.Numbers.{decode}
 use Rattle.tables.specs.Sizes.{mostAttributes, mostTables, mostRowsOne, mostCells, versionOne, versionTwo}
-use Rattle.tables.specs.Versions.{longTable, someLong, mostRowsIn, needless}
+use Rattle.tables.specs.Versions.{someLong, mostRowsIn, needless, blank}
+use Rattle.tables.proofs.VersionLaws.{blank-other, blank-two}
 use Rattle.tables.specs.Rows as order
 use Rattle.tables.specs.Checks.{outside, countFault}
 use Rattle.tables.proofs.CheckLaws.{inside, below, above, scheme-zero, scheme-high, scheme-good, count-many, count-most, count-lent, count-good}
@@ -37,7 +38,7 @@ use Rattle.tables.specs.Catalogues.{filled, given}
 use Rattle.loader.specs.Load.{refused, fieldAt, onField, entryOf, countAt, tableAt, onEntry, tablesEnd, tablesFrom, scanOf}
 use Rattle.loader.proofs.LoadLaws.{count-bad, count-fault, count-rows, table-bad, table-scheme, table-count, field-bad, field-out, field-in, good-field}
 use Rattle.claims.proofs.Alike.{any-ext}
-use Rattle.claims.specs.LoadRefusals.{Before, none, rowAt, Due, theVersion, attributes, tables, table, rowCount, rows, cells, longer, NumberDue, Rises, Passes, version-is, m-is, n-is, scheme-is, count-is, row-begins, cell-is, row-rises, rows-end, Meets, number, other-version, m-out, n-out, bad-scheme, many-rows, many-cells, not-rising, surplus, no-need, Reaches, start, on, FirstFault, ReadWhole}
+use Rattle.claims.specs.LoadRefusals.{Before, none, rowAt, Due, theVersion, attributes, tables, table, rowCount, rows, cells, longer, NumberDue, Rises, Valued, Passes, version-is, m-is, n-is, scheme-is, count-is, row-begins, cell-is, row-rises, rows-end, Meets, number, other-version, m-out, n-out, bad-scheme, many-rows, many-cells, all-null, not-rising, surplus, no-need, Reaches, start, on, FirstFault, ReadWhole}
 
 -- ---- what is still to be said
 
@@ -72,8 +73,12 @@ module _ (s : List ℕ) (room : ℕ) where
   risesAt w b p = isFirst b || order.below (codes w s (placeOf b)) (codes w s p)
 
   -- the cells of the row at place p that came to this, with c rows behind it
-  abbrev rowWalk : ℕ → ℕ → Before → ℕ → Walk → Walk
-  rowWalk w c b p r = onWalk r (λ n. cond (risesAt w b p) (rowsFrom c w s false p n) (WalkFault (refusalAt 7 p 0)))
+  abbrev rowWalk : ℕ → ℕ → ℕ → Before → ℕ → Walk → Walk
+  rowWalk v w c b p r =
+      onWalk r (λ n.
+      cond (blank v (codes w s p)) (WalkFault (refusalAt 21 p 0))
+      (cond (risesAt w b p) (rowsFrom c w s v false p n)
+      (WalkFault (refusalAt 7 p 0))))
 
   abbrev sizeSays : ℕ → ℕ → ℕ → Verdict
   sizeSays v m i = fieldSays (fieldAt s i 1 mostTables 4) (λ n j. tablesSay n v m 0 false j)
@@ -87,8 +92,8 @@ module _ (s : List ℕ) (room : ℕ) where
   says (tables v m) i = sizeSays v m i
   says (table v m k u l) i = tablesSay k v m u l i
   says (rowCount v m k u l x) i = entrySays v m k l (countAt s v room x u i)
-  says (rows v m k u l x c b) i = walkSays v m k u l (rowsFrom c (ones x) s (isFirst b) (placeOf b) i)
-  says (cells v m k u l x c b p w) i = walkSays v m k u l (rowWalk (ones x) c b p (runEnd w s i))
+  says (rows v m k u l x c b) i = walkSays v m k u l (rowsFrom c (ones x) s v (isFirst b) (placeOf b) i)
+  says (cells v m k u l x c b p w) i = walkSays v m k u l (rowWalk v (ones x) c b p (runEnd w s i))
 
   -- ---- at the start it is the load's answer
 
@@ -189,9 +194,10 @@ module _ (s : List ℕ) (room : ℕ) where
 
   module _ (v m k u : ℕ) (l : Bool) (x i c j : ℕ) (e : decode s i ≡ Number c j) where
     count-passes : c ≤ mostRowsIn v → u + c * ones x ≤ mostCells → u + c * ones x ≤ room
-        → entrySays v m k l (countAt s v room x u i) ≡ walkSays v m k (u + c * ones x) (longer c l) (rowsFrom c (ones x) s true 0 j)
+        → entrySays v m k l (countAt s v room x u i) ≡ walkSays v m k (u + c * ones x) (longer c l) (rowsFrom c (ones x) s v true 0 j)
     count-passes h a b =
-        rw (count-rows s v room x u i c j e (count-good (mostRowsIn v) room u x c h a b)) (entry-walk v m k (u + c * ones x) l x c (rowsFrom c (ones x) s true 0 j))
+        rw (count-rows s v room x u i c j e (count-good (mostRowsIn v) room u x c h a b))
+        (entry-walk v m k (u + c * ones x) l x c (rowsFrom c (ones x) s v true 0 j))
 
     count-meets : (f : ℕ) → countFault (mostRowsIn v) room u x c ≡ suc f → entrySays v m k l (countAt s v room x u i) ≡ Refused (refusalAt (suc f) i 0)
     count-meets f h = rw (count-fault s v room x u i c j e (λ z. omega arith), h)
@@ -210,6 +216,13 @@ module _ (s : List ℕ) (room : ℕ) where
   rises w none p h = refl
   rises w (rowAt q) p h = h
 
+  valued : (v w p : ℕ) → Valued s v w p → blank v (codes w s p) ≡ false
+  valued v w p h =
+      elim (ℕ-discrete v versionTwo) [
+        | yes e ↦ blank-two v (codes w s p) e ∙ h e
+        | no e ↦ blank-other v (codes w s p) e
+      ]
+
   one-or-two : (v : ℕ) → (v ≡ versionOne) ⊎ (v ≡ versionTwo) → (versionOne ≤ v) × (v ≤ versionTwo)
   one-or-two v (inl e) = (omega arith, omega arith)
   one-or-two v (inr e) = (omega arith, omega arith)
@@ -225,7 +238,7 @@ module _ (s : List ℕ) (room : ℕ) where
   keeps (count-is {i = i} {j = j} {v = v} {m = m} {k = k} {u = u} {x = x} {c = c} {l = l} e h a b) = count-passes v m k u l x i c j e h a b
   keeps row-begins = refl
   keeps (cell-is e) = rw e
-  keeps (row-rises {x = x} {p = p} {b = b} h) = rw (rises (ones x) b p h)
+  keeps (row-rises {v = v} {x = x} {p = p} {b = b} g h) = rw (valued v (ones x) p g, rises (ones x) b p h)
   keeps rows-end = refl
 
   -- ---- what is at fault decides
@@ -266,7 +279,8 @@ module _ (s : List ℕ) (room : ℕ) where
       count-meets v m k u l x i c j e 5 (count-many (mostRowsIn v) room u x c h)
   decides (many-cells {i = i} {j = j} {v = v} {m = m} {k = k} {u = u} {x = x} {c = c} {l = l} e h a) =
       count-meets v m k u l x i c j e 7 (many (mostRowsIn v) u x c h a)
-  decides (not-rising h) = rw h
+  decides (all-null {x = x} {p = p} h) = rw (blank-two versionTwo (codes (ones x) s p) refl, h)
+  decides (not-rising {v = v} {x = x} {p = p} g h) = rw (valued v (ones x) p g, h)
   decides (surplus {i = i} h) = rw (lt-ltb i (length s) h)
   decides (no-need {i = i} h) = rw (le-ltb i (length s) h)
 

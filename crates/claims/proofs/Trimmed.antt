@@ -239,7 +239,13 @@ module _ (cat : Catalogue) (xs cs ps ms : List ℕ) (A : Agree cat xs cs ps ms) 
     unfolding cellsFault
     cells-fault zero t h = refl
     cells-fault (suc k) t h =
-        rw (first-same t (omega arith), A .schemes t (omega arith), A .rows t (omega arith), cells-fault k (t + 1) (omega arith)) refl
+        rw (
+          version-same cat cat′ refl (A .rows),
+          first-same t (omega arith),
+          A .schemes t (omega arith),
+          A .rows t (omega arith),
+          cells-fault k (t + 1) (omega arith),
+        ) refl
 
     tables-image : (k t : ℕ) → t + k ≡ cat .n → tablesImage k cat′ cells t ≡ tablesImage k cat cells t
     unfolding tablesImage

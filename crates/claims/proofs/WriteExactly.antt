@@ -130,7 +130,7 @@ module _ (cat : Catalogue) (cells : List ℕ) (room : ℕ) where
   write-eleven =
       let p = write-iff 11 (λ z. absurd (omega arith)) in
       let q = fault-row cat cells 11 (λ z. absurd (omega arith)) (catalogue-not cat (length cells) 11 refl) in (
-        λ e. ⊎-elim (λ f. let (t, r, w, x) = q .0 f in absurd (x .1)) (λ s. s) (p .0 e),
+        λ e. ⊎-elim (λ f. let (t, r, w, x) = q .0 f in absurd (x .1 .1)) (λ s. s) (p .0 e),
         λ s. p .1 (inr s),
       )
 
@@ -149,17 +149,18 @@ module _ (cat : Catalogue) (cells : List ℕ) (room : ℕ) where
 
   -- The refusals of the writer.
   abbrev Listed : ℕ → Type 0
-  Listed k = OfCatalogue k ⊎ (k ≡ 10) ⊎ (k ≡ 7) ⊎ (k ≡ 11)
+  Listed k = OfCatalogue k ⊎ (k ≡ 10) ⊎ (k ≡ 21) ⊎ (k ≡ 7) ⊎ (k ≡ 11)
 
   module _ (k : ℕ) (h : k ≡ 0 → ⊥) where
-    listed-row : (k ≡ 0) ⊎ (k ≡ 10) ⊎ (k ≡ 7) → Listed k
+    listed-row : (k ≡ 0) ⊎ (k ≡ 10) ⊎ (k ≡ 21) ⊎ (k ≡ 7) → Listed k
     listed-row (inl z) = absurd (h z)
     listed-row (inr (inl e)) = inr (inl e)
-    listed-row (inr (inr e)) = inr (inr (inl e))
+    listed-row (inr (inr (inl e))) = inr (inr (inl e))
+    listed-row (inr (inr (inr e))) = inr (inr (inr (inl e)))
 
     listed-room : Room k → Listed k
     listed-room r =
-        ⊎-elim (λ e. inr (inr (inr e)))
+        ⊎-elim (λ e. inr (inr (inr (inr e))))
         (λ x. absurd (⊎-elim h (λ n. n) (case-of 0 k (room < size → ⊥) ⊥ x)))
         (case-of 11 k (room < size) _ r)
 
@@ -187,15 +188,18 @@ module _ (cat : Catalogue) (cells : List ℕ) (room : ℕ) where
   write-exact =
       let c = catalogue-exact cat (length cells) in
       record {
-        refusal-4 = write-catalogue 4 (λ z. absurd (omega arith)) (λ r. r) (λ t r x. x .1) (c .refusal-4);
-        refusal-5 = write-catalogue 5 (λ z. absurd (omega arith)) (λ r. r) (λ t r x. x .1) (c .refusal-5);
-        refusal-6 = write-catalogue 6 (λ z. absurd (omega arith)) (λ r. r) (λ t r x. x .1) (c .refusal-6);
-        refusal-8 = write-catalogue 8 (λ z. absurd (omega arith)) (λ r. r) (λ t r x. x .1) (c .refusal-8);
-        refusal-16 = write-catalogue 16 (λ z. absurd (omega arith)) (λ r. r) (λ t r x. x .1) (c .refusal-16);
+        refusal-4 = write-catalogue 4 (λ z. absurd (omega arith)) (λ r. r) (λ t r x. x .1 .1) (c .refusal-4);
+        refusal-5 = write-catalogue 5 (λ z. absurd (omega arith)) (λ r. r) (λ t r x. x .1 .1) (c .refusal-5);
+        refusal-6 = write-catalogue 6 (λ z. absurd (omega arith)) (λ r. r) (λ t r x. x .1 .1) (c .refusal-6);
+        refusal-8 = write-catalogue 8 (λ z. absurd (omega arith)) (λ r. r) (λ t r x. x .1 .1) (c .refusal-8);
+        refusal-16 = write-catalogue 16 (λ z. absurd (omega arith)) (λ r. r) (λ t r x. x .1 .1) (c .refusal-16);
         refusal-10 = write-row 10 (λ z. absurd (omega arith)) (λ r. r) (catalogue-not cat (length cells) 10 refl);
+        refusal-21 =
+            let p = write-row 21 (λ z. absurd (omega arith)) (λ r. r) (catalogue-not cat (length cells) 21 refl) in
+            (λ e. let (t, r, w, (h, x)) = p .0 e in (t, r, w, h, x), λ (t, r, w, h, x). p .1 (t, r, w, (h, x)));
         refusal-7 =
             let p = write-row 7 (λ z. absurd (omega arith)) (λ r. r) (catalogue-not cat (length cells) 7 refl) in
-            (λ e. let (t, r, w, (h, x)) = p .0 e in (t, r, w, h, x), λ (t, r, w, h, x). p .1 (t, r, w, (h, x)));
+            (λ e. let (t, r, w, (h, (g, x))) = p .0 e in (t, r, w, h, g, x), λ (t, r, w, h, g, x). p .1 (t, r, w, (h, (g, x))));
         refusal-11 = write-eleven;
         accepts = write-length;
         no-other = write-other;

@@ -14,7 +14,7 @@ use Rattle.rows.specs.World.{fitsIn}
 use Rattle.loader.specs.declared.Loaded.{Loaded}
 use Rattle.loader.specs.Load.{firstTable, scanOf, tablesCodes, Loads}
 use Rattle.image.specs.RoundTrip.{found}
-use Rattle.image.specs.Edges.{NumberEdges, ImageEdges, VersionEdges}
+use Rattle.image.specs.Edges.{NumberEdges, ImageEdges, VersionEdges, NullEdges}
 use Rattle.machine.specs.Machine.{Says, aSet, finished, Called, call, opening}
 use Rattle.machine.specs.Runs.{Given, runOf, handed}
 
@@ -44,6 +44,8 @@ pub record Edges : Type 0 where
   pub images : ImageEdges
   -- Those that #110 moves and adds.
   pub versions : VersionEdges
+  -- And those of #111.
+  pub nulls : NullEdges
   -- "P `01 01 01 01 00`, good, N = 0, finished at once."
   pub at-once : saysIn (callsOn (0x01 ∷ 0x01 ∷ 0x01 ∷ 0x01 ∷ 0x00 ∷ []) (twoTrials ∷ [])) ≡ finished ∷ []
   -- "P `01 01 01 01 01 00`, good, one null row, one set."

@@ -29,6 +29,7 @@ use Rattle.stream.specs.declared.OpenAnswer.{OpenAnswer}
 use Rattle.stream.specs.declared.HoldingOpenAnswer.{HoldingOpenAnswer}
 use Rattle.stream.specs.Promises.{stateOf, holdingStateOf, Opens, OpensHolding}
 use Rattle.claims.specs.Demands.{Answered, Able, Demand2, Demand3}
+use Rattle.claims.specs.WriteRefusals.{NeedsTwo}
 use Rattle.claims.specs.CallsInRow.{InRow}
 
 -- What a slice of bytes holds.
@@ -81,6 +82,6 @@ pub record RoundTrips : Type 0 where
 -- "Images with a table above 255 rows carry version 2, all others version 1" (#110): the first byte that a write puts down, exactly when.
 pub record Carries : Type 0 where
   pub two : (cat : Catalogue) (cells out wrote : List ℕ) (n : ℕ) → Writes cat cells out (Length n) wrote
-      → (getD wrote 0 0 ≡ versionTwo) ↔ ((t : ℕ) × (t < cat .n) × (mostRowsOne < countOf cat t))
+      → (getD wrote 0 0 ≡ versionTwo) ↔ NeedsTwo cat
   pub one : (cat : Catalogue) (cells out wrote : List ℕ) (n : ℕ) → Writes cat cells out (Length n) wrote
       → (getD wrote 0 0 ≡ versionOne) ↔ ((t : ℕ) → t < cat .n → countOf cat t ≤ mostRowsOne)

@@ -12,7 +12,7 @@ use Rattle.numbers.specs.declared.Reading.the-variants.{Number, NumberFault}
 use Rattle.numbers.specs.Numbers.{mostBytes, decode}
 use Rattle.tables.specs.Sizes.{mostAttributes, mostTables, mostRowsOne, mostCells, versionOne, versionTwo}
 use Rattle.tables.specs.Versions.{mostRowsIn}
-use Rattle.tables.specs.Rows.{below}
+use Rattle.tables.specs.Rows.{below, allNull}
 use Rattle.loader.specs.declared.Fault.{Fault}
 use Rattle.loader.specs.declared.Verdict.the-variants.{Good, Refused}
 use Rattle.loader.specs.Reading.{refusalAt, codes}
@@ -86,6 +86,10 @@ abbrev pub Rises : List ℕ → ℕ → Before → ℕ → Type 0
 Rises s w none p = Unit
 Rises s w (rowAt q) p = below (codes w s q) (codes w s p) ≡ true
 
+-- In version 2 the row at place p, of w cells, has a value (#111); version 1 may hold an all-null row.
+abbrev pub Valued : List ℕ → ℕ → ℕ → ℕ → Type 0
+Valued s v w p = v ≡ versionTwo → allNull (codes w s p) ≡ false
+
 -- What is due at place i is not at fault, and the other is due next, at place j.
 pub data Passes (s : List ℕ) (room : ℕ) : Due → ℕ → Due → ℕ → Type 0 where
   version-is : {i j v : ℕ} → decode s i ≡ Number v j → (v ≡ versionOne) ⊎ (v ≡ versionTwo) → Passes s room theVersion i (attributes v) j
@@ -97,7 +101,7 @@ pub data Passes (s : List ℕ) (room : ℕ) : Due → ℕ → Due → ℕ → Ty
   row-begins : {i v m k u x c : ℕ} {l : Bool} {b : Before} → Passes s room (rows v m k u l x (suc c) b) i (cells v m k u l x c b i (ones x)) i
   cell-is : {i j v m k u x c d p w : ℕ} {l : Bool} {b : Before} → decode s i ≡ Number d j
       → Passes s room (cells v m k u l x c b p (suc w)) i (cells v m k u l x c b p w) j
-  row-rises : {i v m k u x c p : ℕ} {l : Bool} {b : Before} → Rises s (ones x) b p
+  row-rises : {i v m k u x c p : ℕ} {l : Bool} {b : Before} → Valued s v (ones x) p → Rises s (ones x) b p
       → Passes s room (cells v m k u l x c b p 0) i (rows v m k u l x c (rowAt p)) i
   rows-end : {i v m k u x : ℕ} {l : Bool} {b : Before} → Passes s room (rows v m k u l x 0 b) i (table v m k u l) i
 
@@ -118,8 +122,11 @@ pub data Meets (s : List ℕ) (room : ℕ) : Due → ℕ → Fault → Type 0 wh
   -- "8: cells so far, this table included, pass 8,192 or the lent cell slice"; "at a row count 6, then 8"
   many-cells : {i j v m k u x c : ℕ} {l : Bool} → decode s i ≡ Number c j → c ≤ mostRowsIn v → (mostCells < u + c * ones x) ⊎ (room < u + c * ones x)
       → Meets s room (rowCount v m k u l x) i (refusalAt 8 i 0)
+  -- "21, an all-null row where version 2 is read ..; after the row's last cell, before 7, with the row's place on loading" (#111)
+  all-null : {i m k u x c p : ℕ} {l : Bool} {b : Before} → allNull (codes (ones x) s p) ≡ true
+      → Meets s room (cells versionTwo m k u l x c b p 0) i (refusalAt 21 p 0)
   -- "7: a row doesn't rise above the one before", "after the row's last cell"
-  not-rising : {i v m k u x c p q : ℕ} {l : Bool} → below (codes (ones x) s q) (codes (ones x) s p) ≡ false
+  not-rising : {i v m k u x c p q : ℕ} {l : Bool} → Valued s v (ones x) p → below (codes (ones x) s q) (codes (ones x) s p) ≡ false
       → Meets s room (cells v m k u l x c (rowAt q) p 0) i (refusalAt 7 p 0)
   -- "9: bytes after the last table"
   surplus : {i v m u : ℕ} {l : Bool} → i < length s → Meets s room (table v m 0 u l) i (refusalAt 9 i 0)

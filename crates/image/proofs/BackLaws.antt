@@ -280,7 +280,8 @@ module _ (s : List ℕ) (by : (k : ℕ) → getD s k 0 < 256) (v room : ℕ) (ca
       (rw (b .all k) (simp length-append (omega (arith, cells-next cat t, f .0, b .long))), f .1)
 
   -- Where the codes from table t on lie in the cells: the table's cells are its codes, no row is refused, and behind them lie the later codes.
-  table-back : v ≡ versionOf cat → (cells r : List ℕ) (k t i e : ℕ) (b : TableRead s v room cat t i e) → drop (firstCell cat t) cells ≡ tablesCodes (suc k) s i ++ r
+  table-back : v ≡ versionOf cat → (cells r : List ℕ) (k t i e : ℕ) (b : TableRead s v room cat t i e)
+      → drop (firstCell cat t) cells ≡ tablesCodes (suc k) s i ++ r
       → (cellsOf cat cells t ≡ codes (cellCount cat t) s (b .q)) × (rowsRefusal cat cells t ≡ 0) × (drop (firstCell cat (t + 1)) cells ≡ tablesCodes k s e ++ r)
   table-back carried cells r k t i e b d =
       let all : drop (firstCell cat t) cells ≡ codes (cellCount cat t) s (b .q) ++ (tablesCodes k s e ++ r) = d ∙ rw (b .all k) (append-assoc (codes (cellCount cat t) s (b .q)) (tablesCodes k s e) r) in
@@ -366,7 +367,8 @@ head-back s by room v i m j n k cat a b c e =
     let T = tables-were s v room n cat n 0 (replicate mostTables 0) (replicate mostTables 0) k (omega (arith, c .under)) (omega (arith, c .under)) same-m in
     let same-n : n ≡ cat .n = sym (K .n-is) in
     let ev : v ≡ versionOf cat =
-    version-only cat v (one-or-two v (a .above) (a .under)) (λ t l. tables-allowed s by v room cat n 0 k T t (omega arith) (omega (arith, same-n))) (K .needed) in
+    version-only cat v (one-or-two v (a .above) (a .under))
+    (λ t l. tables-allowed s by v room cat n 0 k T t (omega arith) (omega (arith, same-n))) (K .needed) in
     let R : InRange (cat .m) (cat .n) = rw (K .m-is, K .n-is) (record { m-low = b .above; m-high = b .under; n-low = c .above; n-high = c .under }) in
     let clear : tablesFault (cat .n) cat room 0 ≡ 0 = subst (λ (x : ℕ). tablesFault x cat room 0 ≡ 0) (sym (K .n-is)) (tables-clear s by v room cat n 0 k T) in
     record {

@@ -96,7 +96,8 @@ encode-some x =
 pub one-byte : (x : ℕ) → x < 128 → length (encode x) ≡ 1
 one-byte x h = ap length (encode-last x h)
 
-pub image-parts : (cat : Catalogue) (cells : List ℕ) → imageOf cat cells ≡ encode (versionOf cat) ++ (encode (cat .m) ++ (encode (cat .n) ++ tablesImage (cat .n) cat cells 0))
+pub image-parts : (cat : Catalogue) (cells : List ℕ)
+    → imageOf cat cells ≡ encode (versionOf cat) ++ (encode (cat .m) ++ (encode (cat .n) ++ tablesImage (cat .n) cat cells 0))
 unfolding imageOf
 image-parts cat cells = simp append-assoc
 
@@ -169,7 +170,8 @@ module _ (s : List ℕ) where
   -- ---- a table
 
   -- The entry of a table whose parts are read without fault.
-  table-entry : (v room m used i x n c q e : ℕ) → decode s i ≡ Number x n → decode s n ≡ Number c q → Clear m room used x c → c ≤ mostRowsIn v → rowsFrom c (ones x) s v true 0 q ≡ To e
+  table-entry : (v room m used i x n c q e : ℕ) → decode s i ≡ Number x n → decode s n ≡ Number c q → Clear m room used x c → c ≤ mostRowsIn v
+      → rowsFrom c (ones x) s v true 0 q ≡ To e
       → tableAt s v room m used i ≡ Table x c (used + c * ones x) e
   unfolding tableAt countAt
   table-entry v room m used i x n c q e a b h few d =
@@ -250,7 +252,8 @@ module _ (cat : Catalogue) (cells : List ℕ) (A : Accepted cat cells) (room : �
         let read = cells-read t q r h (d .2) in
         record {
           end = end;
-          entry = table-entry s (versionOf cat) room (cat .m) (firstCell cat t) i x n c q end (d .0) (d .1) clear (version-allows cat (A .lawful .rows) t h) (read .0);
+          entry = table-entry s (versionOf cat) room (cat .m) (firstCell cat t) i x n c q end (d .0) (d .1) clear
+              (version-allows cat (A .lawful .rows) t h) (read .0);
           rest = behind s q (encodes cs) r (d .2);
           cells = λ k. table-codes s k i x n c q end (d .0) (d .1) (read .1) ∙ ap (λ (l : List ℕ). l ++ tablesCodes k s end) (read .2);
         }

@@ -54,10 +54,12 @@ unfolding runEnd
 run-near zero s i = omega arith
 run-near (suc w) s i = run-near-step w s i (decode s i) (decode-near s i) (λ n. run-near w s n)
 
-rows-near-step : (k w : ℕ) (s : List ℕ) (v i : ℕ) (d : Walk) (a t : Bool) → NearWalk (i + 9 * w) d → ((n : ℕ) → NearWalk (n + 9 * (k * w)) (rowsFrom k w s v false i n))
+rows-near-step : (k w : ℕ) (s : List ℕ) (v i : ℕ) (d : Walk) (a t : Bool) → NearWalk (i + 9 * w) d
+    → ((n : ℕ) → NearWalk (n + 9 * (k * w)) (rowsFrom k w s v false i n))
     → NearWalk (i + 9 * (suc k * w)) (onWalk d (λ n. cond a (WalkFault (refusalAt 21 i 0)) (cond t (rowsFrom k w s v false i n) (WalkFault (refusalAt 7 i 0)))))
 rows-near-step k w s v i (To n) true t h ih = omega arith
-rows-near-step k w s v i (To n) false true h ih = walk-near (n + 9 * (k * w)) (i + 9 * (suc k * w)) (rowsFrom k w s v false i n) (omega (arith, suc-mul k w)) (ih n)
+rows-near-step k w s v i (To n) false true h ih =
+    walk-near (n + 9 * (k * w)) (i + 9 * (suc k * w)) (rowsFrom k w s v false i n) (omega (arith, suc-mul k w)) (ih n)
 rows-near-step k w s v i (To n) false false h ih = omega arith
 rows-near-step k w s v i (WalkFault f) a t h ih = omega (arith, suc-mul k w)
 

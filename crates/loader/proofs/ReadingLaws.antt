@@ -111,12 +111,14 @@ codes-length (suc k) s i e a = let t = run-was k s i e a in rw (t .2) (ap suc (c
 -- ---- rows that end well
 
 pub rows-was : (k w : ℕ) (s : List ℕ) (v : ℕ) (first : Bool) (p i e : ℕ) → rowsFrom (suc k) w s v first p i ≡ To e
-    → (n : ℕ) × (runEnd w s i ≡ To n) × (blank v (codes w s i) ≡ false) × ((first || below (codes w s p) (codes w s i)) ≡ true) × (rowsFrom k w s v false i n ≡ To e)
+    → (n : ℕ) × (runEnd w s i ≡ To n) × (blank v (codes w s i) ≡ false) × ((first || below (codes w s p) (codes w s i)) ≡ true)
+    × (rowsFrom k w s v false i n ≡ To e)
 unfolding rowsFrom
 rows-was k w s v first p i e q =
     by-walk (runEnd w s i) (blank v (codes w s i)) (first || below (codes w s p) (codes w s i)) (λ n. rowsFrom k w s v false i n) q
   where
-    by-walk : (d : Walk) (a b : Bool) (go : ℕ → Walk) → onWalk d (λ n. cond a (WalkFault (refusalAt 21 i 0)) (cond b (go n) (WalkFault (refusalAt 7 i 0)))) ≡ To e
+    by-walk : (d : Walk) (a b : Bool) (go : ℕ → Walk)
+        → onWalk d (λ n. cond a (WalkFault (refusalAt 21 i 0)) (cond b (go n) (WalkFault (refusalAt 7 i 0)))) ≡ To e
         → (n : ℕ) × (d ≡ To n) × (a ≡ false) × (b ≡ true) × (go n ≡ To e)
     by-walk (To n) true b go q = no-walk (WalkFault (refusalAt 21 i 0)) (refusalAt 21 i 0) e refl q
     by-walk (To n) false true go q = (n, refl, refl, refl, q)

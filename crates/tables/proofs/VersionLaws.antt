@@ -121,7 +121,8 @@ module _ (cat : Catalogue) where
       (which (someLong cat))
 
   -- and of versions 1 and 2 it is the only one that is not and allows their rows.
-  pub version-only : (v : ℕ) → (v ≡ versionOne) ⊎ (v ≡ versionTwo) → ((t : ℕ) → t < cat .n → countOf cat t ≤ mostRowsIn v) → needless v cat ≡ false → v ≡ versionOf cat
+  pub version-only : (v : ℕ) → (v ≡ versionOne) ⊎ (v ≡ versionTwo)
+      → ((t : ℕ) → t < cat .n → countOf cat t ≤ mostRowsIn v) → needless v cat ≡ false → v ≡ versionOf cat
   unfolding needless
   version-only v (inl e) few n =
       e ∙ sym (version-one (long-none (λ t l. rw (most-one v e) at (few t l))))

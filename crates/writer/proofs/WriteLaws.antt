@@ -90,7 +90,8 @@ module _ (cells : List ℕ) (w v : ℕ) where
       × (rowsFault k w cells v false at (at + w) ≡ 0)
   unfolding rowsFault
   row-clear k first before at e =
-      all-clear (tooHigh (part at w cells)) (blank v (part at w cells)) (first || below (part before w cells) (part at w cells)) (rowsFault k w cells v false at (at + w)) e
+      all-clear (tooHigh (part at w cells)) (blank v (part at w cells))
+      (first || below (part before w cells) (part at w cells)) (rowsFault k w cells v false at (at + w)) e
 
   pub rows-none : (k : ℕ) (first : Bool) (before at : ℕ) → k ≤ 0 → rowsFault k w cells v first before at ≡ 0
   unfolding rowsFault
@@ -109,14 +110,16 @@ module _ (cells : List ℕ) (w v : ℕ) where
     step = by k z
       where
         by : (j : ℕ) → 0 < j → rowsFault j w cells v first before at
-            ≡ cond (blank v (part at w cells)) 21 (cond (first || below (part before w cells) (part at w cells)) (rowsFault (j - 1) w cells v false at (at + w)) 7)
+            ≡ cond (blank v (part at w cells)) 21
+            (cond (first || below (part before w cells) (part at w cells)) (rowsFault (j - 1) w cells v false at (at + w)) 7)
         by zero z = absurd (omega arith)
         by (suc j) z = rw (sub-one (suc j), e) refl
 
     pub rows-blank : blank v (part at w cells) ≡ true → rowsFault k w cells v first before at ≡ 21
     rows-blank h = step ∙ rw h
 
-    pub rows-flat : blank v (part at w cells) ≡ false → (first || below (part before w cells) (part at w cells)) ≡ false → rowsFault k w cells v first before at ≡ 7
+    pub rows-flat : blank v (part at w cells) ≡ false
+        → (first || below (part before w cells) (part at w cells)) ≡ false → rowsFault k w cells v first before at ≡ 7
     rows-flat h d = step ∙ rw (h, d)
 
     pub rows-more : blank v (part at w cells) ≡ false → (first || below (part before w cells) (part at w cells)) ≡ true

@@ -46,7 +46,9 @@ returns c =
     let e = c .before .before .before .before in
     let l = e .before .before .before .before .loop in
     let a = e .before .before .before .before .before .before .args in
-    rw (c .refusal-at .ensures) (sym (l .inv ∙ rows-blank (l .left) (a .width) (now (a .s)) (a .v) (l .first) (l .«before») (l .i) _ (omega arith) (sym (e .before .before .run-end .ensures) ∙ e .n .given .1) (sym (c .before .before .blank-at .ensures) ∙ c .before .if1 .taken)))
+    rw (c .refusal-at .ensures)
+    (sym (l .inv ∙ rows-blank (l .left) (a .width) (now (a .s)) (a .v) (l .first) (l .«before») (l .i) _ (omega arith)
+    (sym (e .before .before .run-end .ensures) ∙ e .n .given .1) (sym (c .before .before .blank-at .ensures) ∙ c .before .if1 .taken)))
 
 rises-requires : tie.Need-rises-requires Inv-loop μ-loop
 rises-requires c κs = search needs
@@ -70,7 +72,8 @@ loop-again c =
     let e = c .before .before .before .before .before in
     let l = e .before .before .before .before .loop in
     let a = e .before .before .before .before .before .before .args in
-    l .inv ∙ rows-more (l .left) (a .width) (now (a .s)) (a .v) (l .first) (l .«before») (l .i) _ (omega arith) (sym (e .before .before .run-end .ensures) ∙ e .n .given .1) (filed (c .before .before)) (tested (c .before) ∙ c .if3 .taken)
+    l .inv ∙ rows-more (l .left) (a .width) (now (a .s)) (a .v) (l .first) (l .«before») (l .i) _ (omega arith)
+    (sym (e .before .before .run-end .ensures) ∙ e .n .given .1) (filed (c .before .before)) (tested (c .before) ∙ c .if3 .taken)
 
 refusal-at-requires-2 : tie.Need-refusal-at-requires-2 Inv-loop μ-loop
 refusal-at-requires-2 c κs = search needs
@@ -80,7 +83,9 @@ returns-2 c =
     let e = c .before .before .before .before .before .before in
     let l = e .before .before .before .before .loop in
     let a = e .before .before .before .before .before .before .args in
-    rw (c .refusal-at2 .ensures) (sym (l .inv ∙ rows-fall (l .left) (a .width) (now (a .s)) (a .v) (l .first) (l .«before») (l .i) _ (omega arith) (sym (e .before .before .run-end .ensures) ∙ e .n .given .1) (filed (c .before .before .before)) (tested (c .before .before) ∙ c .before .if3 .left)))
+    rw (c .refusal-at2 .ensures)
+    (sym (l .inv ∙ rows-fall (l .left) (a .width) (now (a .s)) (a .v) (l .first) (l .«before») (l .i) _ (omega arith)
+    (sym (e .before .before .run-end .ensures) ∙ e .n .given .1) (filed (c .before .before .before)) (tested (c .before .before) ∙ c .before .if3 .left)))
 
 enum-known-f : tie.Need-enum-known-f Inv-loop μ-loop
 enum-known-f c = search needs

@@ -27,7 +27,8 @@ refuse-requires-2 c κs = search needs
 returns-2 : tie.Need-returns-2
 returns-2 c =
     let t = c .before .before in
-    c .refuse2 .ensures ∙ rw (c .before .refusal-at2 .ensures) (sym (end-needless _ _ _ _ (t .before .before .if1 .left) (sym (t .before .needless .ensures) ∙ t .if2 .taken)))
+    c .refuse2 .ensures
+    ∙ rw (c .before .refusal-at2 .ensures) (sym (end-needless _ _ _ _ (t .before .before .if1 .left) (sym (t .before .needless .ensures) ∙ t .if2 .taken)))
 
 filled-requires : tie.Need-filled-requires
 filled-requires c κs = search needs

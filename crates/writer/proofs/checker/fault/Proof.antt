@@ -88,7 +88,11 @@ met : (c : tie.After-rows-fault Inv-loop μ-loop)
     rowsRefusal (start (i .before) .args .t1) (start (i .before) .args .cells .now) (i .before .loop .t) ≡ c .rows-fault .result)
 met c =
     let i = walk (c .before .before) in
-    rw (← c .before .before .width .ensures, ← i .before .before .version-of .ensures, ← i .before .loop .inv .1 .places (i .before .loop .t) (i .loop-test .taken)) (sym (c .rows-fault .ensures))
+    rw (
+      ← c .before .before .width .ensures,
+      ← i .before .before .version-of .ensures,
+      ← i .before .loop .inv .1 .places (i .before .loop .t) (i .loop-test .taken),
+    ) (sym (c .rows-fault .ensures))
 
 returns-2 : tie.Need-returns-2 Inv-loop μ-loop
 returns-2 c =

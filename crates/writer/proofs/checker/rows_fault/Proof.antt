@@ -96,13 +96,15 @@ loop-again c =
     let next = rows-next (c .before .before .before .before .before .before .before .before .before .args .width) (l .left) (omega arith) in (
       omega arith,
       λ e. omega arith,
-      l .inv .2 ∙ rows-more _ _ _ _ _ _ _ (omega arith) (low (c .before .before .before .before)) (filed (c .before .before)) (sym (asked (c .before)) ∙ c .if4 .taken),
+      l .inv .2
+          ∙ rows-more _ _ _ _ _ _ _ (omega arith) (low (c .before .before .before .before)) (filed (c .before .before)) (sym (asked (c .before)) ∙ c .if4 .taken),
     )
 
 returns-3 : tie.Need-returns-3 Inv-loop μ-loop
 returns-3 c =
     let l = c .before .before .before .before .before .before .before .loop in
-    sym (l .inv .2 ∙ rows-flat _ _ _ _ _ _ _ (omega arith) (low (c .before .before .before .before)) (filed (c .before .before)) (sym (asked (c .before)) ∙ c .if4 .left))
+    sym (l .inv .2 ∙ rows-flat _ _ _ _ _ _ _ (omega arith)
+    (low (c .before .before .before .before)) (filed (c .before .before)) (sym (asked (c .before)) ∙ c .if4 .left))
 
 returns-4 : tie.Need-returns-4 Inv-loop μ-loop
 returns-4 c =
