@@ -14,11 +14,10 @@ use borrow.Author.Tests.{lt-ltb, le-ltb, le-leb, lt-leb}
 use Rattle.laws.specs.Lists.{part}
 use Rattle.laws.proofs.ListLaws.{part-none, part-more}
 use Rattle.laws.proofs.TestLaws.{or-right}
-use Rattle.tables.specs.Sizes.{mostAttributes, mostCells}
+use Rattle.tables.specs.Sizes.{mostAttributes, mostRows, mostCells}
 use Rattle.tables.specs.Rows.{below}
 use Rattle.tables.specs.Checks.{firstOf, badScheme}
 use Rattle.text.specs.Lines.{noCode}
-use Rattle.text.specs.Reading.{mostTextRows}
 use Rattle.text.specs.Writing.{cut, tooHigh, rowsFault, allFault, tableFault, writeFault}
 
 -- ---- 10
@@ -92,7 +91,7 @@ room-less (suc k) w h = rw (sub-one (suc k)) (omega (arith, suc-mul k w))
 -- ---- 4, 5, 6, 8
 
 -- A table that meets no 6 has so few cells that their number fits.
-pub text-cells-few : (count x : ℕ) → count ≤ mostTextRows → x < 2 ^ 64 → count * ones x ≤ mostTextRows * 64
+pub text-cells-few : (count x : ℕ) → count ≤ mostRows → x < 2 ^ 64 → count * ones x ≤ mostRows * 64
 text-cells-few count x h l = mul-le-mul h (ones-le 64 x l)
 
 module _ (m x count lent : ℕ) where
@@ -110,24 +109,24 @@ module _ (m x count lent : ℕ) where
     scheme-out e = rw (le-ltb m 1 a, le-ltb mostAttributes m b, e)
 
     module _ (e : badScheme m x ≡ false) where
-      pub rows-many : mostTextRows < count → tableFault m x count lent ≡ 6
+      pub rows-many : mostRows < count → tableFault m x count lent ≡ 6
       unfolding tableFault
-      rows-many h = rw (le-ltb m 1 a, le-ltb mostAttributes m b, e, lt-ltb mostTextRows count h)
+      rows-many h = rw (le-ltb m 1 a, le-ltb mostAttributes m b, e, lt-ltb mostRows count h)
 
-      module _ (few : count ≤ mostTextRows) where
+      module _ (few : count ≤ mostRows) where
         pub cells-many : mostCells < count * ones x → tableFault m x count lent ≡ 8
         unfolding tableFault
-        cells-many h = rw (le-ltb m 1 a, le-ltb mostAttributes m b, e, le-ltb mostTextRows count few, lt-ltb mostCells (count * ones x) h)
+        cells-many h = rw (le-ltb m 1 a, le-ltb mostAttributes m b, e, le-ltb mostRows count few, lt-ltb mostCells (count * ones x) h)
 
         pub cells-short : lent < count * ones x → tableFault m x count lent ≡ 8
         unfolding tableFault
         cells-short h =
-            rw (le-ltb m 1 a, le-ltb mostAttributes m b, e, le-ltb mostTextRows count few, lt-ltb lent (count * ones x) h, or-right (ltb mostCells (count * ones x)) {b = true} refl)
+            rw (le-ltb m 1 a, le-ltb mostAttributes m b, e, le-ltb mostRows count few, lt-ltb lent (count * ones x) h, or-right (ltb mostCells (count * ones x)) {b = true} refl)
 
         pub table-good : count * ones x ≤ mostCells → count * ones x ≤ lent → tableFault m x count lent ≡ 0
         unfolding tableFault
         table-good h k =
-            rw (le-ltb m 1 a, le-ltb mostAttributes m b, e, le-ltb mostTextRows count few, le-ltb mostCells (count * ones x) h, le-ltb lent (count * ones x) k)
+            rw (le-ltb m 1 a, le-ltb mostAttributes m b, e, le-ltb mostRows count few, le-ltb mostCells (count * ones x) h, le-ltb lent (count * ones x) k)
 
 -- The table's own, then the rows'.
 pub fault-first : (m x count : ℕ) (cells : List ℕ) → 0 < tableFault m x count (length cells) → writeFault m x count cells ≡ tableFault m x count (length cells)

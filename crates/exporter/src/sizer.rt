@@ -3,7 +3,7 @@ ghost use mathlib.Core.Path.{_≡_};
 ghost use Prim.Native.Nat.{_+_, _*_, _≤_, _<_};
 ghost use lib.ListN.{length};
 ghost use Rattle.laws.specs.Lists.{part};
-ghost use Rattle.text.specs.Reading.{mostTextRows};
+ghost use Rattle.tables.specs.Sizes.{mostRows};
 ghost use lib.Count.{ones};
 ghost use Rattle.text.specs.Writing.{cellText, lineText, linesText, textOf, cut, writeFault};
 use crate::header;
@@ -36,7 +36,7 @@ pub fn line_length(codes: &[u64], from: usize, w: usize) -> usize
 
 // How many bytes the lines of so many rows take.
 pub fn rows_length(cells: &[u64], rows: usize, w: usize) -> usize
-    requires { ⌜ (0 < w) × (w ≤ 64) × (rows ≤ mostTextRows) × (rows * w ≤ length (now cells)) ⌝ }
+    requires { ⌜ (0 < w) × (w ≤ 64) × (rows ≤ mostRows) × (rows * w ≤ length (now cells)) ⌝ }
     ensures { λ r. ⌜ r ≡ length (linesText (cut rows w (now (cells .entry)))) ⌝ }
 {
     let mut sum: usize = 0;

@@ -9,10 +9,11 @@ use borrow.Author.Tests.{lt-ltb}
 use Rattle.laws.specs.Lists.{put, over, part}
 use Rattle.laws.proofs.ListLaws.{put-cons, put-nil, over-append}
 use Rattle.order.proofs.PlaceLaws.{part-rest, part-end}
+use Rattle.tables.specs.Sizes.{mostRows}
 use Rattle.text.specs.declared.Form.the-variants.{AtStart}
 use Rattle.text.specs.declared.CodeAt.{CodeAt}
 use Rattle.text.specs.Lines.{linesFrom}
-use Rattle.text.specs.Reading.{mostTextRows, refused, insert, counted, rowsFrom, flat}
+use Rattle.text.specs.Reading.{refused, insert, counted, rowsFrom, flat}
 use Rattle.text.specs.Order.{Rising, none}
 use Rattle.text.specs.Fields.{codesAt, Reads}
 use Rattle.text.proofs.OrderLaws.{insert-rising}
@@ -29,16 +30,16 @@ use Rattle.importer.proofs.PlacesLaws.{codes-read, rows-more, length-ro
 pub says-is : {w at : ℕ} {s : List ℕ} {r a : Line} → r ≡ a → LineSays w s at r → LineSays w s at a
 says-is {w} {at} {s} e h = subst (LineSays w s at) e h
 
-counted-6 : (room x w : ℕ) (kept : List (List ℕ)) → mostTextRows < length kept → counted room x w kept ≡ refused 6 0 0
+counted-6 : (room x w : ℕ) (kept : List (List ℕ)) → mostRows < length kept → counted room x w kept ≡ refused 6 0 0
 unfolding counted
-counted-6 room x w kept h = rw (lt-ltb mostTextRows (length kept) h)
+counted-6 room x w kept h = rw (lt-ltb mostRows (length kept) h)
 
 -- ---- past the most rows
 
 -- Lines were read to a place, and more rows are kept than a table may have, whichever they are.
 pub record RestSoFar (w : ℕ) (s : List ℕ) (from first at l : ℕ) : Type 0 where
-  pub told : (room x : ℕ) (kept : List (List ℕ)) → mostTextRows < length kept
-      → (more : List (List ℕ)) × (mostTextRows < length more)
+  pub told : (room x : ℕ) (kept : List (List ℕ)) → mostRows < length kept
+      → (more : List (List ℕ)) × (mostRows < length more)
       × (rowsFrom room x w first kept (linesFrom (drop from s) AtStart 0 []) ≡ rowsFrom room x w l more (linesFrom (drop at s) AtStart 0 []))
   pub low : l ≤ at + 1
   pub most : at ≤ length s
@@ -81,7 +82,7 @@ module _ (w : ℕ) (s : List ℕ) (from first at l : ℕ) (so : RestSoFar w s fr
 pub record CollectSoFar (w : ℕ) (s : List ℕ) (from : ℕ) (places : List ℕ) (at l n : ℕ) : Type 0 where
   pub told : (room x : ℕ) → rowsFrom room x w 2 [] (linesFrom (drop from s) AtStart 0 []) ≡ rowsFrom room x w l (rowsAt w s (take n places)) (linesFrom (drop at s) AtStart 0 [])
   pub rise : Rising (rowsAt w s (take n places))
-  pub few : n ≤ mostTextRows
+  pub few : n ≤ mostRows
   pub low : l ≤ at + 1
   pub most : at ≤ length s
 
@@ -100,7 +101,7 @@ module _ (w : ℕ) (s : List ℕ) (from : ℕ) (places : List ℕ) (at l n : ℕ
     line-more : (room x : ℕ) → rowsFrom room x w 2 [] (linesFrom (drop from s) AtStart 0 []) ≡ rowsFrom room x w (l + 1) (rowsAt w s (take r after)) (linesFrom (drop next s) AtStart 0 [])
     line-more room x = so .told room x ∙ e .told room x l (rowsAt w s (take n places)) ∙ rw (k .rows)
 
-    pub collect-on : r ≤ mostTextRows → CollectSoFar w s from after next (l + 1) r
+    pub collect-on : r ≤ mostRows → CollectSoFar w s from after next (l + 1) r
     collect-on h =
         record {
           told = line-more;
@@ -110,7 +111,7 @@ module _ (w : ℕ) (s : List ℕ) (from : ℕ) (places : List ℕ) (at l n : ℕ
           most = e .sizes .1;
         }
 
-    pub collect-over : {c : _} → mostTextRows < r → r ≤ length after → Overfull w s next (l + 1) c → Collects w s from c after
+    pub collect-over : {c : _} → mostRows < r → r ≤ length after → Overfull w s next (l + 1) c → Collects w s from c after
     collect-over h q o =
         record {
           told = λ room x. line-more room x ∙ o .told room x (rowsAt w s (take r after)) after (omega (arith, length-rows w s (take r after), length-take-le r after q));

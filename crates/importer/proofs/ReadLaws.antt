@@ -9,10 +9,10 @@ use lib.Seq.{length-take-le}
 use lib.Dec.{ltb}
 use borrow.Author.Tests.{lt-ltb, le-ltb}
 use Rattle.laws.proofs.TestLaws.{or-right}
-use Rattle.tables.specs.Sizes.{mostAttributes, mostCells}
+use Rattle.tables.specs.Sizes.{mostAttributes, mostRows, mostCells}
 use Rattle.text.specs.declared.Form.the-variants.{AtStart}
 use Rattle.text.specs.Lines.{linesFrom}
-use Rattle.text.specs.Reading.{mostTextRows, Told, table, refused, counted, rowsFrom, headed, readOf, flat, cellsAfter}
+use Rattle.text.specs.Reading.{Told, table, refused, counted, rowsFrom, headed, readOf, flat, cellsAfter}
 use Rattle.text.proofs.TextSays.{in-range}
 use Rattle.laws.specs.Lists.{put}
 use Rattle.importer.specs.declared.TextRead.{TextRead}
@@ -28,18 +28,18 @@ use Rattle.importer.proofs.PlacesLaws.{length-rows}
 
 -- ---- 8, or the table
 
-module _ (room x w n : ℕ) (rows : List (List ℕ)) (e : length rows ≡ n) (few : n ≤ mostTextRows) where
+module _ (room x w n : ℕ) (rows : List (List ℕ)) (e : length rows ≡ n) (few : n ≤ mostRows) where
   most-8 : mostCells < n * w → counted room x w rows ≡ refused 8 0 0
   unfolding counted
-  most-8 h = rw (e, le-ltb mostTextRows n few, lt-ltb mostCells (n * w) h)
+  most-8 h = rw (e, le-ltb mostRows n few, lt-ltb mostCells (n * w) h)
 
   room-8 : room < n * w → counted room x w rows ≡ refused 8 0 0
   unfolding counted
-  room-8 h = rw (e, le-ltb mostTextRows n few, lt-ltb room (n * w) h, or-right (ltb mostCells (n * w)) {b = true} refl)
+  room-8 h = rw (e, le-ltb mostRows n few, lt-ltb room (n * w) h, or-right (ltb mostCells (n * w)) {b = true} refl)
 
   good : n * w ≤ mostCells → n * w ≤ room → counted room x w rows ≡ table x rows
   unfolding counted
-  good h k = rw (e, le-ltb mostTextRows n few, le-ltb mostCells (n * w) h, le-ltb room (n * w) k)
+  good h k = rw (e, le-ltb mostRows n few, le-ltb mostCells (n * w) h, le-ltb room (n * w) k)
 
 -- ---- the rows of a text
 

@@ -10,10 +10,10 @@ use lib.ListN.{length, take, drop, length-drop}
 use lib.Seq.{length-take-le, take-add}
 use lib.Count.{ones}
 use borrow.Author.Tests.{lt-ltb, eq-eqb}
-use Rattle.tables.specs.Sizes.{mostAttributes, mostCells}
+use Rattle.tables.specs.Sizes.{mostAttributes, mostRows, mostCells}
 use Rattle.text.specs.Lines.{noCode, Lines, line, linesFrom}
 use Rattle.text.specs.declared.Form.the-variants.{AtStart}
-use Rattle.text.specs.Reading.{mostTextRows, cellFault, headerFault, schemeFrom, insert, table, counted, rowsFrom, headed, readOf, flat}
+use Rattle.text.specs.Reading.{cellFault, headerFault, schemeFrom, insert, table, counted, rowsFrom, headed, readOf, flat}
 use Rattle.text.specs.Order.{Rising, ordered}
 use Rattle.text.specs.Writing.{attributeCodes, textOf, linesText, cut, wrote, writeOf}
 use Rattle.text.specs.Refusals.{HighCode}
@@ -98,7 +98,7 @@ text-lines m scheme w rows l z p h =
     line-read (attributeCodes m 0 scheme) (linesText rows) z (header-codes m 0 scheme (omega arith)) ∙ rw (lines-read w rows p h)
 
 same-table : (m scheme room : ℕ) (rows : List (List ℕ)) → 1 ≤ m → m ≤ mostAttributes → 0 < scheme → scheme < 2 ^ m → Rows (ones scheme) rows → Rising rows
-    → length rows ≤ mostTextRows → length rows * ones scheme ≤ mostCells → length rows * ones scheme ≤ room
+    → length rows ≤ mostRows → length rows * ones scheme ≤ mostCells → length rows * ones scheme ≤ room
     → readOf m room (textOf m scheme rows) ≡ table scheme rows
 same-table m scheme room rows l h some low are rise few most fits =
     let sc : schemeFrom (attributeCodes m 0 scheme) ≡ scheme = header-scheme m 0 scheme low ∙ mul-one scheme in

@@ -7,10 +7,10 @@ use mathlib.Core.Path.{_≡_, refl, sym, _∙_}
 use mathlib.Core.Logic.{_⊎_, inl, inr}
 use mathlib.Core.List.{List, [], _∷_, _++_, append-assoc, append-nil}
 use lib.ListN.{length}
-use Rattle.tables.specs.Sizes.{mostAttributes, mostCells}
+use Rattle.tables.specs.Sizes.{mostAttributes, mostRows, mostCells}
 use Rattle.text.specs.Lines.{Lines, done, broken, line, linesFrom}
 use Rattle.text.specs.declared.Form.the-variants.{AtStart}
-use Rattle.text.specs.Reading.{mostTextRows, headerFault, schemeFrom, Told, table, refused, readOf}
+use Rattle.text.specs.Reading.{headerFault, schemeFrom, Told, table, refused, readOf}
 use Rattle.text.specs.Order.{InOrder, ordered, linesRows, textRows}
 use Rattle.text.specs.Grammar.{LineAt, FieldsTo, Cells, BadCell, Header}
 use Rattle.text.specs.Refusals.{Due, header, aLine, Passes, header-is, row-is, Meets, header-outside, header-bad, line-outside, surplus, missing, cell-bad, many-rows, many-cells, Reaches, start, on, FirstFault, m-out, fault, ReadWhole, TextExact}
@@ -57,7 +57,7 @@ module _ (m room : ℕ) (s : List ℕ) where
       where
         by : InOrder rows (ordered [] rows) → Ended
         by o =
-            elim (decLt mostTextRows (length (ordered [] rows))) [
+            elim (decLt mostRows (length (ordered [] rows))) [
               | yes h ↦ met r (many-rows o h)
               | no h ↦ elim (decLt mostCells (length (ordered [] rows) * w)) [
                 | yes a ↦ met r (many-cells o (omega arith) (inl a))

@@ -8,13 +8,13 @@ use mathlib.Core.List.{List, [], _∷_, _++_, List·Memᴰ, List·Memᴰ·not-ni
 use lib.ListN.{length, length-append}
 use lib.Dec.{ltb}
 use borrow.Author.Tests.{lt-ltb, le-ltb, eq-eqb, ne-eqb}
-use Rattle.tables.specs.Sizes.{mostAttributes, mostCells}
+use Rattle.tables.specs.Sizes.{mostAttributes, mostRows, mostCells}
 use Rattle.text.specs.Lines.{kindOf, codeOn, act, Lines, done, broken, line, onAct, linesFrom}
 use Rattle.text.specs.declared.Form.{Form}
 use Rattle.text.specs.declared.Form.the-variants.{AtStart, InPlain, InQuotes, AfterQuote, AfterCr}
 use Rattle.text.specs.declared.Act.{Act}
 use Rattle.text.specs.declared.Act.the-variants.{Takes, Marks, NextField, NextLine, Breaks}
-use Rattle.text.specs.Reading.{mostTextRows, headerFault, schemeFrom, cellFault, insert, Told, table, refused, counted, orElse, rowsFrom, headed, readOf}
+use Rattle.text.specs.Reading.{headerFault, schemeFrom, cellFault, insert, Told, table, refused, counted, orElse, rowsFrom, headed, readOf}
 use Rattle.text.specs.Order.{InOrder, ordered}
 use Rattle.text.specs.Grammar.{LineAt, FieldsTo, OutsideAt}
 use Rattle.text.specs.Refusals.{Due, header, aLine, Passes, header-is, row-is, Meets, header-outside, header-bad, line-outside, surplus, missing, cell-bad, many-rows, many-cells, Reaches, start, on, FirstFault, m-out, fault, ReadWhole}
@@ -157,24 +157,24 @@ module _ (m room : ℕ) (small : m ≤ mostAttributes) where
   sorted-is : (w : ℕ) (rows sorted : List (List ℕ)) → Wide w rows → InOrder rows sorted → ordered [] rows ≡ sorted
   sorted-is w rows sorted h o = order-unique rows (ordered [] rows) sorted (in-order w rows h) o
 
-  count-rows : (x w : ℕ) (rows : List (List ℕ)) → mostTextRows < length rows → counted room x w rows ≡ refused 6 0 0
+  count-rows : (x w : ℕ) (rows : List (List ℕ)) → mostRows < length rows → counted room x w rows ≡ refused 6 0 0
   unfolding counted
-  count-rows x w rows h = rw (lt-ltb mostTextRows (length rows) h)
+  count-rows x w rows h = rw (lt-ltb mostRows (length rows) h)
 
-  count-cells : (x w : ℕ) (rows : List (List ℕ)) → length rows ≤ mostTextRows → (mostCells < length rows * w) ⊎ (room < length rows * w)
+  count-cells : (x w : ℕ) (rows : List (List ℕ)) → length rows ≤ mostRows → (mostCells < length rows * w) ⊎ (room < length rows * w)
       → counted room x w rows ≡ refused 8 0 0
   unfolding counted
-  count-cells x w rows h (inl a) = rw (le-ltb mostTextRows (length rows) h, lt-ltb mostCells (length rows * w) a)
-  count-cells x w rows h (inr a) = rw (le-ltb mostTextRows (length rows) h, lt-ltb room (length rows * w) a) (by (ltb mostCells (length rows * w)))
+  count-cells x w rows h (inl a) = rw (le-ltb mostRows (length rows) h, lt-ltb mostCells (length rows * w) a)
+  count-cells x w rows h (inr a) = rw (le-ltb mostRows (length rows) h, lt-ltb room (length rows * w) a) (by (ltb mostCells (length rows * w)))
     where
       by : (t : Bool) → cond (t || true) (refused 8 0 0) (table x rows) ≡ refused 8 0 0
       by true = refl
       by false = refl
 
-  pub count-good : (x w : ℕ) (rows : List (List ℕ)) → length rows ≤ mostTextRows → length rows * w ≤ mostCells → length rows * w ≤ room
+  pub count-good : (x w : ℕ) (rows : List (List ℕ)) → length rows ≤ mostRows → length rows * w ≤ mostCells → length rows * w ≤ room
       → counted room x w rows ≡ table x rows
   unfolding counted
-  count-good x w rows h a b = rw (le-ltb mostTextRows (length rows) h, le-ltb mostCells (length rows * w) a, le-ltb room (length rows * w) b)
+  count-good x w rows h a b = rw (le-ltb mostRows (length rows) h, le-ltb mostCells (length rows * w) a, le-ltb room (length rows * w) b)
 
   or-else : (k j : ℕ) (refuse : ℕ → Told) (go : Told) → k ≡ 1 + j → orElse k refuse go ≡ refuse (j + 1)
   or-else k j refuse go e = let q : k ≡ suc j = omega arith in let p : j + 1 ≡ suc j = omega arith in rw (q, p)

@@ -10,12 +10,11 @@ use lib.ListN.{length}
 use lib.Count.{ones}
 use lib.Dec.{ltb, leb, eqb}
 use borrow.Author.Tests.{lt-ltb, le-ltb, le-leb, lt-leb, eq-eqb, ne-eqb, leb-true}
-use Rattle.tables.specs.Sizes.{mostAttributes, mostCells}
+use Rattle.tables.specs.Sizes.{mostAttributes, mostRows, mostCells}
 use Rattle.tables.specs.Rows.{below}
 use Rattle.tables.specs.Checks.{firstOf, badScheme}
 use Rattle.laws.proofs.TestLaws.{clash}
 use Rattle.text.specs.Lines.{noCode}
-use Rattle.text.specs.Reading.{mostTextRows}
 use Rattle.text.specs.Order.{Rising}
 use Rattle.text.specs.Writing.{cut, tooHigh, rowsFault, allFault, tableFault, writeFault, textOf, Wrote, wrote, unwritten, wroteOf, writeOf}
 use Rattle.text.specs.Refusals.{HighCode, RowsMeet, AllMeet, RowsPass, TableMeets, m-bad, scheme-bad, rows-many, cells-many, TablePasses, WriteFault, table-at, rows-at, short, TextWriteExact}
@@ -142,17 +141,17 @@ module _ (m x count lent : ℕ) where
   table-says (m-bad (inr h)) = rw (lt-ltb mostAttributes m h, either (ltb m 1))
   table-says (scheme-bad a b (inl h)) = rw (le-ltb m 1 a, le-ltb mostAttributes m b, eq-eqb x 0 h)
   table-says (scheme-bad a b (inr h)) = rw (le-ltb m 1 a, le-ltb mostAttributes m b, le-leb (2 ^ m) x h, either (eqb x 0))
-  table-says (rows-many a b c d h) = rw (le-ltb m 1 a, le-ltb mostAttributes m b, ne-eqb x 0 (omega arith), lt-leb (2 ^ m) x d, lt-ltb mostTextRows count h)
+  table-says (rows-many a b c d h) = rw (le-ltb m 1 a, le-ltb mostAttributes m b, ne-eqb x 0 (omega arith), lt-leb (2 ^ m) x d, lt-ltb mostRows count h)
   table-says (cells-many a b c d e (inl h)) =
-      rw (le-ltb m 1 a, le-ltb mostAttributes m b, ne-eqb x 0 (omega arith), lt-leb (2 ^ m) x d, le-ltb mostTextRows count e, lt-ltb mostCells (count * ones x) h)
+      rw (le-ltb m 1 a, le-ltb mostAttributes m b, ne-eqb x 0 (omega arith), lt-leb (2 ^ m) x d, le-ltb mostRows count e, lt-ltb mostCells (count * ones x) h)
   table-says (cells-many a b c d e (inr h)) =
-      rw (le-ltb m 1 a, le-ltb mostAttributes m b, ne-eqb x 0 (omega arith), lt-leb (2 ^ m) x d, le-ltb mostTextRows count e, lt-ltb lent (count * ones x) h, either (ltb mostCells (count * ones x)))
+      rw (le-ltb m 1 a, le-ltb mostAttributes m b, ne-eqb x 0 (omega arith), lt-leb (2 ^ m) x d, le-ltb mostRows count e, lt-ltb lent (count * ones x) h, either (ltb mostCells (count * ones x)))
 
   pub table-passes : TablePasses m x count lent → tableFault m x count lent ≡ 0
   unfolding tableFault badScheme
   table-passes p =
       let z : x ≡ 0 → ⊥ = omega arith in
-      rw (le-ltb m 1 (p .some), le-ltb mostAttributes m (p .attributes), ne-eqb x 0 z, lt-leb (2 ^ m) x (p .scheme-low), le-ltb mostTextRows count (p .rows), le-ltb mostCells (count * ones x) (p .most), le-ltb lent (count * ones x) (p .fits))
+      rw (le-ltb m 1 (p .some), le-ltb mostAttributes m (p .attributes), ne-eqb x 0 z, lt-leb (2 ^ m) x (p .scheme-low), le-ltb mostRows count (p .rows), le-ltb mostCells (count * ones x) (p .most), le-ltb lent (count * ones x) (p .fits))
 
   pub table-some : {k : ℕ} → TableMeets m x count lent k → 0 < k
   table-some (m-bad h) = omega arith
@@ -170,7 +169,7 @@ module _ (m x count lent : ℕ) where
             | no c ↦ inr (5, scheme-bad (omega arith) (omega arith) (inl (omega arith)))
             | yes c ↦ elim (decLt x (2 ^ m)) [
               | no d ↦ inr (5, scheme-bad (omega arith) (omega arith) (inr (omega arith)))
-              | yes d ↦ elim (decLt mostTextRows count) [
+              | yes d ↦ elim (decLt mostRows count) [
                 | yes e ↦ inr (6, rows-many (omega arith) (omega arith) c d e)
                 | no e ↦ elim (decLt mostCells (count * ones x)) [
                   | yes f ↦ inr (8, cells-many (omega arith) (omega arith) c d (omega arith) (inl f))

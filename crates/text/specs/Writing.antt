@@ -7,11 +7,10 @@ use lib.Count.{ones}
 use lib.Dec.{ltb, leb, eqb}
 use Rattle.laws.specs.Lists.{put}
 use Rattle.lines.specs.Decimals.{decimal}
-use Rattle.tables.specs.Sizes.{mostAttributes, mostCells}
+use Rattle.tables.specs.Sizes.{mostAttributes, mostRows, mostCells}
 use Rattle.tables.specs.Rows.{below}
 use Rattle.tables.specs.Checks.{firstOf, outside, badScheme}
 use Rattle.text.specs.Lines.{comma, cr, lf, noCode}
-use Rattle.text.specs.Reading.{mostTextRows}
 
 -- ---- the text
 
@@ -72,7 +71,7 @@ unfoldable pub tableFault : ℕ → ℕ → ℕ → ℕ → ℕ
 tableFault m scheme count lent =
     cond (outside 1 mostAttributes m) 4
     (cond (badScheme m scheme) 5
-    (cond (ltb mostTextRows count) 6
+    (cond (ltb mostRows count) 6
     (cond (ltb mostCells (count * ones scheme) || ltb lent (count * ones scheme)) 8
     0)))
 
