@@ -1,15 +1,21 @@
 -- What is claimed of a reading and of a write, in document 02's words: each refusal exactly where its condition is the first to hold, with its line and
--- field; what is read; and that no input admits two outcomes. Proved in proofs/. Assumes nothing.
+-- field; what is read; that no input admits two outcomes; and that a write refuses as the image writer does. Proved in proofs/. Assumes nothing.
 use Prim.Native.Nat.{ℕ, _*_, _≤_}
 use mathlib.Core.Path.{_≡_}
 use mathlib.Core.Logic.{_↔_}
-use mathlib.Core.List.{List}
-use lib.ListN.{length, take}
+use mathlib.Core.Bool.{true}
+use mathlib.Core.List.{List, _∷_}
+use lib.ListN.{length, take, replicate}
 use lib.Count.{ones}
 use Rattle.laws.specs.Lists.{put}
+use Rattle.tables.specs.declared.Catalogue.{Catalogue}
+use Rattle.tables.specs.Sizes.{mostRowsOne, versionOne}
+use Rattle.tables.specs.Catalogues.{filled, given}
+use Rattle.tables.specs.Checks.{firstOf, catalogueFault}
+use Rattle.writer.specs.Write.{rowsFault, writeFault as imageFault}
 use Rattle.text.specs.Reading.{flat}
 use Rattle.text.specs.Refusals.{FirstFault, ReadWhole, WriteFault, TablePasses, RowsPass}
-use Rattle.text.specs.Writing.{textOf, cut}
+use Rattle.text.specs.Writing.{textOf, cut, writeFault}
 use Rattle.importer.specs.declared.TextRead.{TextRead}
 use Rattle.importer.specs.declared.TextRead.the-variants.{Table, Refused}
 use Rattle.importer.specs.Promise.{ReadsText}
@@ -46,3 +52,21 @@ pub record OneWriting : Type 0 where
 pub record ComesBack (m x count : ℕ) (cells lent : List ℕ) (r : TextRead) (after : List ℕ) : Type 0 where
   pub answer : r ≡ Table x count
   pub cells-are : after ≡ put (take (count * ones x) cells) lent
+
+-- ---- "The text writer refuses a table as the image writer refuses one table alone, 21 aside"
+
+-- The table as it is said, and the catalogue of it alone.
+abbrev pub saidAlone : ℕ → ℕ → ℕ → Catalogue
+saidAlone m x count = given m 1 (x ∷ replicate 7 0) (count ∷ replicate 7 0)
+
+abbrev pub alone : ℕ → ℕ → ℕ → Catalogue
+alone m x count = filled (saidAlone m x count)
+
+pub record SameRefusals (m x count : ℕ) (cells : List ℕ) : Type 0 where
+  -- The two refuse alike, or the image writer gives 21.
+  pub aside : (imageFault (alone m x count) cells ≡ 21 → ⊥) → writeFault m x count cells ≡ imageFault (alone m x count) cells
+  -- It gives 21 for no table of at most 255 rows, so those are refused alike.
+  pub short : count ≤ mostRowsOne → writeFault m x count cells ≡ imageFault (alone m x count) cells
+  -- Whatever it gives, the text writer's tests are the image writer's, of the catalogue and then of the rows, but that no row is 21, as in version 1.
+  pub tests : writeFault m x count cells
+      ≡ firstOf (catalogueFault (alone m x count) (length cells)) (rowsFault count (ones x) cells versionOne true 0 0)
