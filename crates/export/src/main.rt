@@ -28,7 +28,7 @@ fn write_table(m: usize, scheme: u64, rows: usize, cells: &[u64]) {
 }
 
 // Writes a table of the catalogue.
-// The catalogue is checked again, so that where a table's cells begin is known.
+// The catalogue is checked again, so that the place stored of the table is known to lie among the cells.
 fn write_of(cat: Catalogue, table: usize, cells: &[u64])
     requires { ⌜ mostCells ≤ length (now cells) ⌝ }
 {
@@ -42,7 +42,7 @@ fn write_of(cat: Catalogue, table: usize, cells: &[u64])
         usage();
         return;
     }
-    let start = tables::first_cell(cat, table);
+    let start = cat.places[table] as usize;
     write_table(
         cat.m,
         cat.schemes[table],

@@ -58,6 +58,18 @@ fn write_image(cat: Catalogue, cells: &[u64]) {
     }
 }
 
+// Makes a catalogue of the tables and writes their image.
+// What the catalogue is refused for is told.
+fn write_tables(m: usize, n: usize, schemes: [u64; 8], rows: [u16; 8], cells: &[u64]) {
+    let made = tables::make_catalogue(m, n, schemes, rows);
+    if made.refusal != 0 {
+        let numbers = [made.refusal as u64];
+        teller::tell(&numbers);
+        return;
+    }
+    write_image(made.catalogue, cells);
+}
+
 // Reads the files that the arguments from the third on name, a table each, and writes their image.
 fn import_all(m: usize, files: usize)
     requires { ⌜ files ≤ 8 ⌝ }
@@ -73,7 +85,7 @@ fn import_all(m: usize, files: usize)
         match table_of(m, &path[..k], &mut cells[used..]) {
             Taken::Nothing => return,
             Taken::Rows(scheme, n) => {
-                let fault = tables::count_fault(8192, used, scheme, n as u64);
+                let fault = tables::count_fault(4095, 8192, used, scheme, n as u64);
                 if fault != 0 {
                     let numbers = [fault as u64];
                     teller::tell(&numbers);
@@ -86,13 +98,7 @@ fn import_all(m: usize, files: usize)
         }
         t = t + 1;
     }
-    let cat = Catalogue {
-        m: m,
-        n: files,
-        schemes: schemes,
-        rows: rows,
-    };
-    write_image(cat, &cells);
+    write_tables(m, files, schemes, rows, &cells);
 }
 
 // Reads the tables that the arguments name.

@@ -1,11 +1,11 @@
--- `export::write_of` is safe: a lawful catalogue has its tables' cells among those lent. Assumes nothing.
+-- `export::write_of` is safe: the place that a lawful catalogue stores of a table lies among the cells lent. Assumes nothing.
 use native.Mathlib.Omega.{arith}
 use Prim.Native.Nat.{ℕ, _+_, _-_, _*_, _^_, _≤_, _<_}
 use mathlib.Core.Path.{_≡_, refl, sym, ap, _∙_}
 use lib.ListN.{length}
 use Rattle.tables.specs.declared.Catalogue.{Catalogue}
 use Rattle.tables.specs.Sizes.{mostTables, mostCells}
-use Rattle.tables.specs.Catalogues.{firstCell}
+use Rattle.tables.specs.Catalogues.{placeIn}
 use Rattle.tables.specs.Checks.{catalogueFault, Lawful}
 use Rattle.tables.proofs.CatalogueLaws.{table-ends}
 use Rattle.tables.proofs.CheckLaws.{fault-lawful}
@@ -17,19 +17,17 @@ use Rattle.export.proofs.write_of.Lts as lts
 use Rattle.export.proofs.usage.Reads as usage-reads
 use Rattle.export.proofs.write_table.Reads as write-table-reads
 use Rattle.tables.proofs.fault.Reads as fault-reads
-use Rattle.tables.proofs.first_cell.Reads as first-cell-reads
 use Rattle.teller.proofs.tell.Reads as tell-reads
 
 -- What is known of a table of a catalogue without fault.
 record Known (cat : Catalogue) (t : ℕ) : Type 0 where
-  lawful : Lawful cat mostCells
   few : t < mostTables
-  inside : firstCell cat t ≤ mostCells
+  inside : placeIn cat t ≤ mostCells
 
 known : (cat : Catalogue) (t f : ℕ) → f ≡ catalogueFault cat mostCells → f ≡ 0 → t < cat .n → Known cat t
 known cat t f e z h =
     let l = fault-lawful cat mostCells (sym e ∙ z) in
-    record { lawful = l; few = omega (arith, l .tables); inside = omega (arith, table-ends cat mostCells l t h, l .cells) }
+    record { few = omega (arith, l .tables); inside = omega (arith, l .places t h, table-ends cat t h, l .cells) }
 
 fault-requires : tie.Need-fault-requires
 fault-requires c κs = search needs
@@ -49,11 +47,20 @@ usage-requires c κs = search needs
 returns-2 : tie.Need-returns-2
 returns-2 c = search needs
 
-first-cell-requires : tie.Need-first-cell-requires
-first-cell-requires c κs =
+mul-start : tie.Need-mul-start
+mul-start c =
     let a = c .before .before .before .before .args in
     let k = known (a .t1) (a .table) _ (c .before .before .fault .ensures) (omega (arith, c .before .if1 .left)) (omega (arith, c .if2 .left)) in
-    (k .lawful, omega (arith, c .if2 .left))
+    omega (arith, k .few)
+
+element-copy-out-start : tie.Need-element-copy-out-start
+element-copy-out-start c =
+    let a = c .before .before .before .before .args in
+    let k = known (a .t1) (a .table) _ (c .before .before .fault .ensures) (omega (arith, c .before .if1 .left)) (omega (arith, c .if2 .left)) in
+    omega (arith, k .few)
+
+cast-start : tie.Need-cast-start
+cast-start c = search needs
 
 mul-write-table : tie.Need-mul-write-table
 mul-write-table c =
@@ -86,19 +93,19 @@ mul-write-table-3 : tie.Need-mul-write-table-3
 mul-write-table-3 c =
     let a = c .before .before .before .before .before .before .before .args in
     let k = known (a .t1) (a .table) _ (c .before .before .before .before .before .fault .ensures) (omega (arith, c .before .before .before .before .if1 .left)) (omega (arith, c .before .before .before .if2 .left)) in
-    omega (arith, k .inside, c .before .before .first-cell .ensures, c .before .before .before .before .before .before .before .pre, c .before .before .before .before .before .before .before .good)
+    omega (arith, k .inside, c .before .before .before .before .before .before .before .pre, c .before .before .before .before .before .before .before .good)
 
 sub-write-table : tie.Need-sub-write-table
 sub-write-table c =
     let a = c .before .before .before .before .before .before .before .args in
     let k = known (a .t1) (a .table) _ (c .before .before .before .before .before .fault .ensures) (omega (arith, c .before .before .before .before .if1 .left)) (omega (arith, c .before .before .before .if2 .left)) in
-    omega (arith, k .inside, c .before .before .first-cell .ensures, c .before .before .before .before .before .before .before .pre, c .before .before .before .before .before .before .before .good)
+    omega (arith, k .inside, c .before .before .before .before .before .before .before .pre, c .before .before .before .before .before .before .before .good)
 
 part-write-table-start : tie.Need-part-write-table-start
 part-write-table-start c =
     let a = c .before .before .before .before .before .before .before .args in
     let k = known (a .t1) (a .table) _ (c .before .before .before .before .before .fault .ensures) (omega (arith, c .before .before .before .before .if1 .left)) (omega (arith, c .before .before .before .if2 .left)) in
-    omega (arith, k .inside, c .before .before .first-cell .ensures, c .before .before .before .before .before .before .before .pre, c .before .before .before .before .before .before .before .good)
+    omega (arith, k .inside, c .before .before .before .before .before .before .before .pre, c .before .before .before .before .before .before .before .good)
 
 part-write-table-end : tie.Need-part-write-table-end
 part-write-table-end c = search needs
@@ -119,7 +126,9 @@ write-of-spec =
     returns
     usage-requires
     returns-2
-    first-cell-requires
+    mul-start
+    element-copy-out-start
+    cast-start
     mul-write-table
     element-copy-out-write-table
     mul-write-table-2

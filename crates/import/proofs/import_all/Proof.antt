@@ -4,14 +4,14 @@ use native.Mathlib.Omega.{arith}
 use Prim.Native.Nat.{ℕ, _+_, _-_, _*_, _^_, _≤_, _<_}
 use mathlib.Core.Path.{_≡_, refl, sym, ap, _∙_}
 use lib.ListN.{length, length-append, length-take, length-drop}
-use Rattle.tables.specs.Sizes.{mostCells}
+use Rattle.tables.specs.Sizes.{mostRows, mostCells}
 use Rattle.tables.proofs.CheckLaws.{fault-counted}
 use Rattle.import.proofs.import_all.Statement.{statement}
 use Rattle.import.proofs.import_all.Tie as tie
 use Rattle.import.proofs.import_all.Reads as reads
 use Rattle.import.proofs.import_all.Lts as lts
 use Rattle.import.proofs.table_of.Reads as table-of-reads
-use Rattle.import.proofs.write_image.Reads as write-image-reads
+use Rattle.import.proofs.write_tables.Reads as write-tables-reads
 use Rattle.os.proofs.arg.Reads as arg-reads
 use Rattle.tables.proofs.count_fault.Reads as count-fault-reads
 use Rattle.tables.proofs.width.Reads as width-reads
@@ -86,7 +86,7 @@ array-write-schemes c = search needs
 cast-rows : tie.Need-cast-rows Inv-loop μ-loop
 cast-rows c =
     let l = c .before .before .before .before .before .before .before .before .before .before .before .before .before .loop in
-    let k = fault-counted mostCells (l .used) _ _ (sym (c .before .count-fault .ensures) ∙ c .if1 .left) in
+    let k = fault-counted mostRows mostCells (l .used) _ _ (sym (c .before .count-fault .ensures) ∙ c .if1 .left) in
     omega (arith, k .few)
 
 mul-rows : tie.Need-mul-rows Inv-loop μ-loop
@@ -101,13 +101,13 @@ width-requires c κs = search needs
 mul-used : tie.Need-mul-used Inv-loop μ-loop
 mul-used c =
     let l = c .before .before .before .before .before .before .before .before .before .before .before .before .before .before .loop in
-    let k = fault-counted mostCells (l .used) _ _ (sym (c .before .before .count-fault .ensures) ∙ c .before .if1 .left) in
+    let k = fault-counted mostRows mostCells (l .used) _ _ (sym (c .before .before .count-fault .ensures) ∙ c .before .if1 .left) in
     rw (c .width .ensures) (omega (arith, k .most))
 
 add-used : tie.Need-add-used Inv-loop μ-loop
 add-used c =
     let l = c .before .before .before .before .before .before .before .before .before .before .before .before .before .before .loop in
-    let k = fault-counted mostCells (l .used) _ _ (sym (c .before .before .count-fault .ensures) ∙ c .before .if1 .left) in
+    let k = fault-counted mostRows mostCells (l .used) _ _ (sym (c .before .before .count-fault .ensures) ∙ c .before .if1 .left) in
     rw (c .width .ensures) (omega (arith, k .most))
 
 add-t : tie.Need-add-t Inv-loop μ-loop
@@ -119,14 +119,14 @@ loop-less c = search needs
 loop-again : tie.Need-loop-again Inv-loop μ-loop
 loop-again c =
     let l = c .before .before .before .before .before .before .before .before .before .before .before .before .before .before .loop in
-    let k = fault-counted mostCells (l .used) _ _ (sym (c .before .before .count-fault .ensures) ∙ c .before .if1 .left) in
+    let k = fault-counted mostRows mostCells (l .used) _ _ (sym (c .before .before .count-fault .ensures) ∙ c .before .if1 .left) in
     (rw (c .width .ensures) (k .most), omega (arith, c .before .before .before .before .before .before .before .before .before .before .before .before .before .loop-test .taken), simp (length-append, length-take, length-drop) (omega (arith, l .inv, c .before .before .before .before .before .before .before .table-of .kept)))
 
-slice-aggregate-write-image : tie.Need-slice-aggregate-write-image Inv-loop μ-loop
-slice-aggregate-write-image c = search needs
+slice-aggregate-write-tables : tie.Need-slice-aggregate-write-tables Inv-loop μ-loop
+slice-aggregate-write-tables c = search needs
 
-write-image-requires : tie.Need-write-image-requires Inv-loop μ-loop
-write-image-requires c κs = search needs
+write-tables-requires : tie.Need-write-tables-requires Inv-loop μ-loop
+write-tables-requires c κs = search needs
 
 returns-3 : tie.Need-returns-3 Inv-loop μ-loop
 returns-3 c = search needs
@@ -166,6 +166,6 @@ import-all-spec =
     add-t
     loop-less
     loop-again
-    slice-aggregate-write-image
-    write-image-requires
+    slice-aggregate-write-tables
+    write-tables-requires
     returns-3)
