@@ -7,7 +7,7 @@ ghost use lib.ListN.{length, take};
 ghost use Rattle.laws.specs.Lists.{Placed};
 ghost use Rattle.keys.specs.Keys.{bitsPerRow, mostTables, rowsIn};
 ghost use Rattle.keys.specs.TwoWords.{numberOf};
-ghost use Rattle.lines.specs.Decimals.{mostDigits, decimal, goesOn, wordOf};
+ghost use Rattle.lines.specs.Decimals.{decimal, goesOn, wordOf};
 ghost use Rattle.lines.specs.Lines.{mostField, setRoom, field, value, fields, values, line, paddedEnd, setLine};
 use keys::Key;
 
@@ -42,7 +42,7 @@ pub fn put_word(word: &[u8], out: &mut [u8], start: usize) -> usize
 }
 
 // How many digits a number has.
-fn places(x: u64) -> usize
+pub fn places(x: u64) -> usize
     ensures { λ r. ⌜ r ≡ length (decimal x) ⌝ }
 {
     let mut y = x;
@@ -55,8 +55,8 @@ fn places(x: u64) -> usize
 }
 
 // Puts the digits of a number, the last one first, since that is how they come.
-fn put_decimal(x: u64, out: &mut [u8], at: usize) -> usize
-    requires { ⌜ at + mostDigits ≤ length (now out) ⌝ }
+pub fn put_decimal(x: u64, out: &mut [u8], at: usize) -> usize
+    requires { ⌜ at + length (decimal x) ≤ length (now out) ⌝ }
     ensures { λ r. ⌜ Placed (decimal x) at (now (out .entry)) r (now (out .exit)) ⌝ }
 {
     let behind = at + places(x);

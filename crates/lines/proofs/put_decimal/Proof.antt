@@ -2,14 +2,14 @@
 -- Assumes nothing.
 use borrow.Author.Needs.{needs}
 use native.Mathlib.Omega.{arith}
-use Prim.Native.Nat.{_+_, _/_, _%_, _^_, _<_}
+use Prim.Native.Nat.{_+_, _/_, _%_, _^_, _≤_, _<_}
 use mathlib.Core.Path.{_≡_, refl, sym, ap, _∙_}
 use mathlib.Core.List.{[]}
 use lib.ListN.{length, set, length-set}
 use Rattle.laws.specs.Lists.{over}
 use Rattle.laws.proofs.ListLaws.{put-cons, put-nil}
 use Rattle.lines.specs.Decimals.{digit, decimal}
-use Rattle.lines.proofs.DecimalLaws.{decimal-last, decimal-more, decimal-length, decimal-few, decimal-some}
+use Rattle.lines.proofs.DecimalLaws.{decimal-last, decimal-more, decimal-length, decimal-some}
 use Rattle.lines.proofs.LineLaws.{over-last}
 use Rattle.lines.proofs.put_decimal.Statement.{statement}
 use Rattle.lines.proofs.put_decimal.Tie as tie
@@ -21,6 +21,7 @@ abbrev Inv-loop : tie.InvT-loop
 Inv-loop x out₀ at behind i₀ y₀ out i y =
     (y < 2 ^ 64)
     × (i + 1 ≡ at + length (decimal y))
+    × (length (decimal y) ≤ length (decimal x))
     × (length out ≡ length out₀)
     × (over at (decimal x) out₀ ≡ over at (decimal y) out)
 
@@ -31,13 +32,13 @@ places-requires : tie.Need-places-requires Inv-loop μ-loop
 places-requires c κs = search needs
 
 add-behind : tie.Need-add-behind Inv-loop μ-loop
-add-behind c = omega (arith, decimal-few (c .before .before .args .x))
+add-behind c = search needs
 
 sub-i : tie.Need-sub-i Inv-loop μ-loop
 sub-i c = omega (arith, decimal-some (c .before .before .args .x) (omega arith))
 
 loop-holds : tie.Need-loop-holds Inv-loop μ-loop
-loop-holds c = (omega arith, omega (arith, decimal-some (c .before .before .args .x) (omega arith)), refl, refl)
+loop-holds c = (omega arith, omega (arith, decimal-some (c .before .before .args .x) (omega arith)), omega arith, refl, refl)
 
 add-out : tie.Need-add-out Inv-loop μ-loop
 add-out c = search needs
@@ -46,7 +47,7 @@ cast-out : tie.Need-cast-out Inv-loop μ-loop
 cast-out c = search needs
 
 slice-write-out : tie.Need-slice-write-out Inv-loop μ-loop
-slice-write-out c = omega (arith, decimal-few (c .before .loop .y))
+slice-write-out c = search needs
 
 sub-i-2 : tie.Need-sub-i-2 Inv-loop μ-loop
 sub-i-2 c = omega (arith, decimal-length (c .before .loop .y) (omega arith) (omega arith), decimal-some (c .before .loop .y / 10) (omega arith))
@@ -62,8 +63,9 @@ loop-again c =
     let e : l .i ≡ a .at + length (decimal (l .y / 10)) = omega arith in (
       omega arith,
       omega (arith, decimal-some (l .y / 10) (omega arith)),
-      length-set (l .out) (l .i) (digit (l .y % 10)) ∙ l .inv .2,
-      l .inv .3 ∙ rw (decimal-more (l .y) (omega arith) (omega arith), e) (over-last (l .out) (decimal (l .y / 10)) (a .at) (digit (l .y % 10)) (omega (arith, decimal-few (l .y)))),
+      omega arith,
+      length-set (l .out) (l .i) (digit (l .y % 10)) ∙ l .inv .3,
+      l .inv .4 ∙ rw (decimal-more (l .y) (omega arith) (omega arith), e) (over-last (l .out) (decimal (l .y / 10)) (a .at) (digit (l .y % 10)) (omega arith)),
     )
 
 add-out-2 : tie.Need-add-out-2 Inv-loop μ-loop
@@ -73,7 +75,7 @@ cast-out-2 : tie.Need-cast-out-2 Inv-loop μ-loop
 cast-out-2 c = search needs
 
 slice-write-out-2 : tie.Need-slice-write-out-2 Inv-loop μ-loop
-slice-write-out-2 c = omega (arith, decimal-few (c .before .loop .y))
+slice-write-out-2 c = search needs
 
 same-length : tie.Need-same-length Inv-loop μ-loop
 same-length c = search needs
@@ -86,7 +88,7 @@ returns c =
     let e : l .i ≡ a .at = omega (arith, ap length d) in
     record {
       next = omega (arith, c .before .before .places .ensures);
-      bytes = sym (l .inv .3 ∙ rw (d, e) (put-cons (l .out) (a .at) (digit (l .y)) [] (omega arith) ∙ put-nil (set (l .out) (a .at) (digit (l .y))) (a .at + 1)));
+      bytes = sym (l .inv .4 ∙ rw (d, e) (put-cons (l .out) (a .at) (digit (l .y)) [] (omega arith) ∙ put-nil (set (l .out) (a .at) (digit (l .y))) (a .at + 1)));
     }
 
 pub put-decimal-spec : {M : Type 1} → statement M

@@ -2,6 +2,7 @@
 use native.Mathlib.Omega.{arith}
 use Rattle.laws.proofs.PlacedLaws.{placed-append}
 use Rattle.lines.specs.Lines.{field}
+use Rattle.lines.proofs.DecimalLaws.{decimal-few}
 use borrow.Author.Needs.{needs}
 use Rattle.lines.proofs.put_field.Statement.{statement}
 use Rattle.lines.proofs.put_field.Tie as tie
@@ -10,7 +11,7 @@ put-byte-requires : tie.Need-put-byte-requires
 put-byte-requires c κs = search needs
 
 put-decimal-requires : tie.Need-put-decimal-requires
-put-decimal-requires c κs = search needs
+put-decimal-requires c κs = let st = c .before .before .before .before .before .before in omega (arith, st .pre, decimal-few (st .args .x))
 
 same-length : tie.Need-same-length
 same-length c = search needs

@@ -1,0 +1,15 @@
+pub mod LineLaws
+pub mod CellLaws
+pub mod FieldLaws
+pub mod GrammarLaws
+pub mod MeaningLaws
+pub mod OrderLaws
+pub mod InsertLaws
+pub mod TextSays
+pub mod TextExactly
+pub mod Fieldwise
+pub mod WriteExactly
+pub mod WrittenLines
+pub mod Headers
+pub mod RoundTrip
+pub mod Examples

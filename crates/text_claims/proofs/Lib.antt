@@ -1,0 +1,4 @@
+pub mod Readings
+pub mod Writings
+pub mod Returns
+pub mod ImageWriter
