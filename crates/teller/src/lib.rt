@@ -1,13 +1,15 @@
 // What the programs over text say: a refusal on standard error, and the first bytes of a buffer on standard output.
-ghost use Prim.Native.Nat.{_≤_};
+ghost use mathlib.Core.Path.{_≡_};
+ghost use Prim.Native.Nat.{_≤_, min};
 ghost use lib.ListN.{length};
 ghost use Rattle.io.specs.Counts.{Counts};
 use libc::STDERR_FILENO;
 use libc::STDOUT_FILENO;
 
 // So many bytes of a buffer, or all that it has.
+// What is written is then just this front, neither less nor more.
 fn front(n: usize, buffer: &[u8]) -> usize
-    ensures { λ r. ⌜ Counts r (now (buffer .entry)) ⌝ }
+    ensures { λ r. ⌜ (r ≡ min n (length (now (buffer .entry)))) × Counts r (now (buffer .entry)) ⌝ }
 {
     if buffer.len() < n {
         return buffer.len();
@@ -16,6 +18,7 @@ fn front(n: usize, buffer: &[u8]) -> usize
 }
 
 // Tells a refusal: its number, and the numbers that say where it was met.
+// It writes, which no contract can say; the line is that of `lines::put_line`.
 pub fn tell(numbers: &[u64])
     requires { ⌜ length (now numbers) ≤ 3 ⌝ }
 {
@@ -25,7 +28,7 @@ pub fn tell(numbers: &[u64])
     io::write_all(STDERR_FILENO, &line[..filled]);
 }
 
-// Writes the first bytes of a buffer to standard output.
+// Writes the first bytes of a buffer to standard output, which no contract can say.
 // A write that fails is told.
 pub fn send(out: &[u8], n: usize) {
     let filled = front(n, out);
