@@ -187,7 +187,7 @@ pub fn step_holding(
     stream::step_holding(cat, cells, low, high, left, right, stream, budget, padded)
 }
 
-// Whether one padded row covers another: the same length, the same value wherever both have one, and at least as many values.
+// Whether one padded row covers another: the same length, and the first has, at each attribute where the second has a value, that same value.
 // Rows of any length may be asked about, and any codes.
 pub fn covers(first: &[u64], second: &[u64]) -> bool
     ensures { λ r. ⌜ Covers (now (first .entry)) (now (second .entry)) r ⌝ }
