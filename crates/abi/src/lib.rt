@@ -1,3 +1,5 @@
+#![tactic(auto)]
+
 // The library's calls for C and Rust: numbers and slices alone, a catalogue as 34 words.
 ghost use Rattle.std.specs.Prelude.{◌≡◌, ◌+◌, ◌≤◌, ◌<◌, length, get_or, set, ltb};
 ghost use Rattle.laws.specs.Lists.{put, part};

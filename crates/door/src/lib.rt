@@ -1,3 +1,5 @@
+#![tactic(auto)]
+
 // The C door: a collector written in C asks whether an image is good.
 ghost use Rattle.door.specs.Door.{Checks};
 

@@ -1,3 +1,5 @@
+#![tactic(auto)]
+
 // The program `export TABLE`: reads an image from standard input and writes one of its tables, numbered from 0, as comma-separated text.
 // An image that is refused, or a table that it lacks, is told on standard error, and nothing is written.
 ghost use Rattle.std.specs.Prelude.{◌≤◌, length};

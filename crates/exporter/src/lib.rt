@@ -1,3 +1,5 @@
+#![tactic(auto)]
+
 // The exporter: one table as comma-separated text into lent bytes. The first pass decides and measures and touches nothing, the second fills.
 ghost use Rattle.exporter.specs.Promise.{WritesText};
 

@@ -1,3 +1,5 @@
+#![tactic(auto)]
+
 // The public calls of the library: load and write an image, make a catalogue, open a stream and move it on, check a list of sets, and ask whether one padded row covers another.
 // None asks anything of its caller, and each promise stands here once: one outcome for every input, refusals too.
 ghost use Rattle.padding.specs.Covering.{Covers};

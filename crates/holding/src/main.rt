@@ -1,3 +1,5 @@
+#![tactic(auto)]
+
 // The program `holding TABLE ROW`: reads an image from standard input and prints those of the row sets of its tables that hold one row.
 // Tables are numbered from 0, the rows of a table from 1. Wrong arguments are told on standard error, and nothing is read or printed.
 use libc::STDERR_FILENO;

@@ -1,3 +1,5 @@
+#![tactic(auto)]
+
 // The hub's list: whether a list of keys, whose words lie in two slices, holds every maximal set once and nothing else.
 // The list is itself the keys of a store: a search tree over it, whose links lie in arrays of the call, finds repeats and answers every search.
 ghost use Rattle.std.specs.Prelude.{◌≡◌, false, [], ◌≤◌, ◌<◌, length, get_or, eqb};

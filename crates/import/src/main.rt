@@ -1,3 +1,5 @@
+#![tactic(auto)]
+
 // The program `import M FILE..`: reads a table of attributes below M from each file of comma-separated text, and writes the image of them all to standard output.
 // Else nothing is written there. The first file that is refused is told on standard error with its number, line and field; then the tables together.
 ghost use Rattle.std.specs.Prelude.{◌≤◌, length};

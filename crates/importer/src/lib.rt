@@ -1,3 +1,5 @@
+#![tactic(auto)]
+
 // The importer: one table from comma-separated text into lent cells.
 // The text is read line by line. Of the lines whose rows are new only the places are kept, in the rows' order, so that a text may have any number of lines;
 // rows are compared in the text, and the cells are filled last, when nothing is refused.

@@ -1,3 +1,5 @@
+#![tactic(auto)]
+
 // Callers of the public calls, one for each, that promise what they were promised and do nothing else.
 // They are here for the check: a public contract that loses its promise, or says less, is not enough for its caller here. Nothing else calls them.
 ghost use Rattle.tables.specs.Checks.{Makes};

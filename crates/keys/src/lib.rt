@@ -1,3 +1,5 @@
+#![tactic(auto)]
+
 // A row set as two words, its key: the row number of each table in bits of its own, tables 0 to 4 in the first word from its lowest bit on, 5 to 7 in
 // the second. What is said of a key is said of its number, in which the second word's bits stand above the first's rows.
 ghost use Rattle.std.specs.Prelude.{◌≡◌, ◌*◌, ◌<◌, ◌≤◌, ◌^◌, eqb, leb};

@@ -1,3 +1,5 @@
+#![tactic(auto)]
+
 // The lines that the programs print, put into lent bytes from a cursor on, and the numbers that they are given.
 // Each function that puts gives the place behind what it put; what lies before and behind it stays, so that a buffer is filled line by line and written as one.
 ghost use Rattle.std.specs.Prelude.{◌≡◌, ◌∷◌, [], ◌+◌, ◌*◌, ◌≤◌, length, take};

@@ -1,3 +1,5 @@
+#![tactic(auto)]
+
 // The list of the row sets of an image, for the programs that print one: what it reads, what it writes, and the text between.
 // A program lends it the cells and the store; a read or a write that fails is told on standard error.
 ghost use Rattle.std.specs.Prelude.{◌≡◌, ◌+◌, ◌≤◌, length};

@@ -1,3 +1,5 @@
+#![tactic(auto)]
+
 // The listing program: reads an image from standard input and prints the row sets of its tables.
 // It lends the list all the room that it works in.
 use lister::{Got, Scope};

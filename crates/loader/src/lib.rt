@@ -1,3 +1,5 @@
+#![tactic(auto)]
+
 // The loader: an image's catalogue, and its cells into those lent. It goes in two passes: the first decides and touches nothing, the second fills.
 ghost use Rattle.loader.specs.Load.{Loads};
 

@@ -1,3 +1,5 @@
+#![tactic(auto)]
+
 // The image's numbers: groups of seven bits, lowest first, the top bit set on all but the last byte.
 ghost use Rattle.std.specs.Prelude.{◌≡◌, ◌^◌, ◌<◌, ◌≤◌, length};
 ghost use Rattle.numbers.specs.Numbers.{encode, decode, Wrote};

@@ -1,3 +1,5 @@
+#![tactic(auto)]
+
 // Padded rows: the row that a set stands for, written for the caller, and whether one such row covers another.
 ghost use Rattle.std.specs.Prelude.{◌≡◌, true, ◌<◌, ◌≤◌, length};
 ghost use Rattle.laws.specs.Lists.{put};

@@ -1,3 +1,5 @@
+#![tactic(auto)]
+
 // A catalogue's tables as those of the rule: the codes of their rows, and which keys name rows of them.
 ghost use Rattle.std.specs.Prelude.{◌≡◌, true, ◌+◌, ◌≤◌, ◌<◌, length};
 ghost use Rattle.std.specs.Int.Count.{ones};

@@ -1,3 +1,5 @@
+#![tactic(auto)]
+
 // Row sets as keys: the row test by the set's merged row, the extension, and the set that a trial comes to.
 ghost use Rattle.std.specs.Prelude.{◌≡◌, true, List, ℕ, ◌<◌, length};
 ghost use Rattle.words.specs.Words.{bit_of};

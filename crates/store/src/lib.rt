@@ -1,3 +1,5 @@
+#![tactic(auto)]
+
 // The store of a stream: the keys of the sets found so far, in a tree that the bits of a sought key steer through.
 // It lies in four slices that the caller lends: the first words of the keys, the second ones, left links and right links.
 ghost use Rattle.std.specs.Prelude.{◌≡◌, ◌*◌, ◌<◌, ◌≤◌, min, eqb, length, get_or};

@@ -1,3 +1,5 @@
+#![tactic(auto)]
+
 // The stream of row sets: open, and the by-value call with a budget of trials.
 // The store lies in four slices that the caller lends; the record goes in by value and comes back moved on.
 ghost use Rattle.std.specs.Prelude.{◌≡◌, ◌≤◌, ◌<◌, length};

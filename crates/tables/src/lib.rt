@@ -1,3 +1,5 @@
+#![tactic(auto)]
+
 // The catalogue: what it says of each table, where a row's cells lie, which tables touch, and which refusal it meets.
 ghost use Rattle.std.specs.Prelude.{◌≡◌, not, cond, ◌&&◌, ◌%◌, ◌^◌, ◌≤◌, ◌<◌, eqb};
 ghost use Rattle.std.specs.Int.Bits.{bit_and};

@@ -1,3 +1,5 @@
+#![tactic(auto)]
+
 // What the programs over text say: a refusal on standard error, and the first bytes of a buffer on standard output.
 ghost use Rattle.std.specs.Prelude.{◌≡◌, ◌≤◌, min, length};
 ghost use Rattle.io.specs.Counts.{IsPrefixLen};

@@ -1,3 +1,5 @@
+#![tactic(auto)]
+
 // Comma-separated text after RFC 4180, field by field: what each byte means where it stands, and the code that a field spells.
 // What a text of such fields tells, and how a table is written as one, stands in specs/; the importer reads, the exporter writes.
 ghost use Rattle.std.specs.Prelude.{◌≡◌, ◌≤◌};

@@ -1,3 +1,5 @@
+#![tactic(auto)]
+
 // A verdict of the loader as numbers, for the calls that C makes.
 ghost use Rattle.std.specs.Prelude.{◌≡◌};
 ghost use Rattle.loader.specs.Load.{farthest, NearVerdict};

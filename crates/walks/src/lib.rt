@@ -1,3 +1,5 @@
+#![tactic(auto)]
+
 // The merged row of a set, and the walk over a table's rows to the first that has its codes: row by row, or by halving where a column does not fall.
 ghost use Rattle.std.specs.Prelude.{◌≡◌, ◌↔◌, true, ℕ, ◌+◌, ◌-◌, ◌*◌, ◌%◌, ◌^◌, ◌≤◌, ◌<◌, length, get_or};
 ghost use Rattle.std.specs.Int.Count.{ones};

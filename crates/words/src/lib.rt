@@ -1,3 +1,5 @@
+#![tactic(auto)]
+
 // The bits of a word of 64, counted from the lowest: keys, schemes and sets of attributes are such words.
 ghost use Rattle.std.specs.Prelude.{◌≡◌, ℕ, ◌-◌, ◌<◌, ◌^◌};
 ghost use Rattle.words.specs.Words.{bit_of, LowestBit};

@@ -1,3 +1,5 @@
+#![tactic(auto)]
+
 // The writer: the image of tables into lent bytes. It goes in two passes: the first decides and touches nothing, the second fills.
 ghost use Rattle.writer.specs.Write.{Writes};
 
