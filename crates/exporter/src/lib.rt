@@ -9,7 +9,7 @@ mod putter;
 mod sizer;
 
 // The answer of a write: the text's length, or the number of the refusal.
-#[derive(Drop)]
+#[derive(Clone, Copy)]
 pub enum TextWritten {
     Length(usize),
     Refused(usize),

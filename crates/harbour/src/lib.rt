@@ -22,7 +22,7 @@ pub use writer::Written;
 
 // What the thin call answers: the answer, the key of a set (else that of no row), its trials, row tests and looks.
 // The record is not in it: the call has moved it on where it lies.
-#[derive(Drop)]
+#[derive(Clone, Copy)]
 pub struct NextAnswer {
     pub answer: Answer,
     pub key: Key,

@@ -26,7 +26,7 @@ use tables::{Catalogue, Row};
 const MOST_RECORDS: usize = 65535;
 
 // The answer on a list: yes; no, by the entry at a place, from 0; no, by the key of a set that is not listed; or the number of a refusal.
-#[derive(Drop)]
+#[derive(Clone, Copy)]
 pub enum ListVerdict {
     Right,
     Entry(usize),

@@ -16,7 +16,7 @@ fn usage() {
 }
 
 // What a file gives: a table's scheme and how many rows it has; or nothing, and what was wrong is told.
-#[derive(Drop)]
+#[derive(Clone, Copy)]
 enum Taken {
     Rows(u64, usize),
     Nothing,

@@ -16,21 +16,21 @@ mod keeper;
 mod liner;
 
 // The answer of a reading: the table's scheme and how many rows it has; or the number of the refusal with its line and field.
-#[derive(Drop)]
+#[derive(Clone, Copy)]
 pub enum TextRead {
     Table(u64, usize),
     Refused(usize, usize, usize),
 }
 
 // What the header gives: the scheme, how many attributes it has and the place of the first row's line; or the refusal's number and field.
-#[derive(Drop)]
+#[derive(Clone, Copy)]
 pub enum Head {
     Rows(u64, usize, usize),
     BadHead(usize, usize),
 }
 
 // What a row's line gives: the place of the next line; that there is none here; or the refusal's number and field.
-#[derive(Drop)]
+#[derive(Clone, Copy)]
 pub enum Line {
     Row(usize),
     End,
@@ -38,7 +38,7 @@ pub enum Line {
 }
 
 // What all rows' lines give: how many different rows there are, or the refusal's number, line and field.
-#[derive(Drop)]
+#[derive(Clone, Copy)]
 pub enum Collected {
     Kept(usize),
     Faulty(usize, usize, usize),

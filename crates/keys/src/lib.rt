@@ -8,7 +8,7 @@ ghost use Rattle.keys.specs.Keys.{bits_per_row, most_tables, row_of, with_row};
 ghost use Rattle.keys.specs.TwoWords.{tables_in_low, number_in, low_of, high_of, number_of};
 
 // The two words of a key, the first of them low.
-#[derive(Drop)]
+#[derive(Clone, Copy)]
 pub struct Key {
     pub low: u64,
     pub high: u64,

@@ -12,7 +12,7 @@ ghost use Rattle.lines.specs.Lines.{most_field, set_room, field, value, fields, 
 use keys::Key;
 
 // What a word says: a number in decimal digits, or something else.
-#[derive(Drop)]
+#[derive(Clone, Copy)]
 pub enum Word {
     Number(u64),
     Other,

@@ -14,7 +14,7 @@ pub use stream::Scope;
 mod text;
 
 // Where a list stands: its tables, what is asked for and its stream, what all calls have counted, the calls that are left, and how much of the buffer is filled.
-#[derive(Drop)]
+#[derive(Clone, Copy)]
 pub struct Standing {
     pub catalogue: Catalogue,
     pub scope: Scope,
@@ -27,21 +27,21 @@ pub struct Standing {
 }
 
 // What open answered, and what its stream is asked for.
-#[derive(Drop)]
+#[derive(Clone, Copy)]
 pub struct OpenedFor {
     pub answer: OpenAnswer,
     pub scope: Scope,
 }
 
 // What a call answered, and what its stream is asked for.
-#[derive(Drop)]
+#[derive(Clone, Copy)]
 pub struct SteppedFor {
     pub answer: StepAnswer,
     pub scope: Scope,
 }
 
 // How many bytes were read, or that a read failed.
-#[derive(Drop)]
+#[derive(Clone, Copy)]
 pub enum Got {
     Bytes(usize),
     Failed,

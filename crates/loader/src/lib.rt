@@ -12,7 +12,7 @@ pub use scanner::scan;
 
 // Why an image is refused: the number of the refusal, its place, and how many bytes of a number that is at fault by itself were looked at, else 0.
 // Every answer that may be a refusal holds one, so that what a refusal tells is said here alone.
-#[derive(Drop)]
+#[derive(Clone, Copy)]
 pub struct Fault {
     pub refusal: usize,
     pub place: usize,
@@ -20,35 +20,35 @@ pub struct Fault {
 }
 
 // The place that a walk came to, or its fault.
-#[derive(Drop)]
+#[derive(Clone, Copy)]
 pub enum Walk {
     To(usize),
     WalkFault(Fault),
 }
 
 // A number of the image's head and the place behind it, or its fault.
-#[derive(Drop)]
+#[derive(Clone, Copy)]
 pub enum Field {
     Value(u64, usize),
     FieldFault(Fault),
 }
 
 // A table's scheme, its row count, the cells with it and the place behind it, or its fault.
-#[derive(Drop)]
+#[derive(Clone, Copy)]
 pub enum Entry {
     Table(u64, u16, usize, usize),
     TableFault(Fault),
 }
 
 // What the loader says of an image: good, or its first fault.
-#[derive(Drop)]
+#[derive(Clone, Copy)]
 pub enum Verdict {
     Good,
     Refused(Fault),
 }
 
 // The answer of a load: the verdict, and the catalogue, which is all zeros where the image is refused.
-#[derive(Drop)]
+#[derive(Clone, Copy)]
 pub struct Loaded {
     pub verdict: Verdict,
     pub catalogue: Catalogue,

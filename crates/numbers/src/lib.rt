@@ -5,7 +5,7 @@ ghost use Rattle.std.specs.Prelude.{◌≡◌, ◌^◌, ◌<◌, ◌≤◌, leng
 ghost use Rattle.numbers.specs.Numbers.{encode, decode, Wrote};
 
 // A number and the place behind it, or the refusal (1, 2, 17) that is met in reading it and how many bytes were looked at.
-#[derive(Drop)]
+#[derive(Clone, Copy)]
 pub enum Reading {
     Number(u64, usize),
     NumberFault(usize, usize),

@@ -17,7 +17,7 @@ use keys::Key;
 use tables::{Catalogue, Row};
 
 // What an extension or a trial comes to: the key of the set, and how many row tests were made.
-#[derive(Drop)]
+#[derive(Clone, Copy)]
 pub struct Grown {
     pub key: Key,
     pub tests: usize,
@@ -26,7 +26,7 @@ pub struct Grown {
 // What a trial goes by and reads off the catalogue and the cells: of each table how many rows lie before it and how wide its rows are; how many rows there
 // are; and which tables have a first column that does not fall.
 // Worked out once, it serves every trial of a call; its numbers have no more bytes than they need, since it is handed down by value.
-#[derive(Drop)]
+#[derive(Clone, Copy)]
 pub struct Layout {
     pub before: [u16; 8],
     pub widths: [u8; 8],
@@ -36,14 +36,14 @@ pub struct Layout {
 
 // A row set under way in a trial: its key, and as a mask the tables that have a row in it.
 // The mask tells at once which rows there are to look at, and with the catalogue's masks which tables touch the set.
-#[derive(Drop)]
+#[derive(Clone, Copy)]
 struct RowSet {
     key: Key,
     tables: u64,
 }
 
 // What a set has to share with other rows: the attributes of its rows, and the tables that touch one of theirs.
-#[derive(Drop)]
+#[derive(Clone, Copy)]
 struct Touch {
     attrs: u64,
     reach: u64,

@@ -14,7 +14,7 @@ const MOST_RECORDS: usize = 65535;
 
 // What a search comes to, with the looks that it made.
 // Absent names the record and the side whose empty link ended it, so that the sought key can be added there.
-#[derive(Drop)]
+#[derive(Clone, Copy)]
 pub enum Looked {
     Found {
         place: usize,
@@ -32,7 +32,7 @@ pub enum Looked {
 
 // What an offer of a key comes to: it was there, it was added, or refusal 12 (Full) or 14 (Broken).
 // A refused offer writes nothing and counts no looks.
-#[derive(Drop)]
+#[derive(Clone, Copy)]
 pub enum Placed {
     Known { looks: usize },
     Added { looks: usize },

@@ -21,7 +21,7 @@ use store::Placed;
 use tables::{Catalogue, Row};
 
 // "One stream record per open stream": records found, records handed out, and the next row to try.
-#[derive(Drop)]
+#[derive(Clone, Copy)]
 pub struct StreamRecord {
     pub found: usize,
     pub taken: usize,
@@ -29,14 +29,14 @@ pub struct StreamRecord {
 }
 
 // What a stream is asked for: every set, or those with row r of table t.
-#[derive(Drop)]
+#[derive(Clone, Copy)]
 pub enum Scope {
     Every,
     With(usize, usize),
 }
 
 // The record of a stream of the sets that hold one row: it names the row beside found, taken and next row.
-#[derive(Drop)]
+#[derive(Clone, Copy)]
 pub struct HoldingRecord {
     pub stream: StreamRecord,
     pub table: usize,
@@ -44,7 +44,7 @@ pub struct HoldingRecord {
 }
 
 // What a call answers: a set, the end, or that its budget is spent; or the number of a refusal.
-#[derive(Drop)]
+#[derive(Clone, Copy)]
 pub enum Answer {
     Set,
     Finished,
@@ -53,7 +53,7 @@ pub enum Answer {
 }
 
 // All that a call gives: the answer, the key of a set (else that of no row), its trials, row tests and looks, and the record moved on.
-#[derive(Drop)]
+#[derive(Clone, Copy)]
 pub struct StepAnswer {
     pub answer: Answer,
     pub key: Key,
@@ -64,7 +64,7 @@ pub struct StepAnswer {
 }
 
 // The same of a stream of the sets that hold one row, which stays the one that its record names.
-#[derive(Drop)]
+#[derive(Clone, Copy)]
 pub struct HoldingStepAnswer {
     pub answer: Answer,
     pub key: Key,
@@ -75,7 +75,7 @@ pub struct HoldingStepAnswer {
 }
 
 // All that open gives: the refusal (0 for none), the record, and its row tests.
-#[derive(Drop)]
+#[derive(Clone, Copy)]
 pub struct OpenAnswer {
     pub refusal: usize,
     pub stream: StreamRecord,
@@ -83,7 +83,7 @@ pub struct OpenAnswer {
 }
 
 // The same of a stream of the sets that hold one row, with the row that its record then names.
-#[derive(Drop)]
+#[derive(Clone, Copy)]
 pub struct HoldingOpenAnswer {
     pub refusal: usize,
     pub stream: HoldingRecord,
@@ -91,7 +91,7 @@ pub struct HoldingOpenAnswer {
 }
 
 // What a trial comes to: the records found after it, its row tests and its looks; or refusal 12, or 14.
-#[derive(Drop)]
+#[derive(Clone, Copy)]
 pub enum Tried {
     Done(usize, usize, usize),
     Full,

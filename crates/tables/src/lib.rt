@@ -18,7 +18,7 @@ const MOST_ROWS: u64 = 4095;
 // "One record with m, n, and eight schemes and eight row counts", and "eight first-cell places and eight masks of touching tables": bit u of table t's
 // mask says that t and u touch. Entries from n on are ignored.
 // A place is at most 8,192 and a mask has a bit a table, so two bytes hold either: a catalogue is handed down by value.
-#[derive(Drop)]
+#[derive(Clone, Copy)]
 pub struct Catalogue {
     pub m: usize,
     pub n: usize,
@@ -29,14 +29,14 @@ pub struct Catalogue {
 }
 
 // What a caller who made tables by hand gets: their refusal (0 for none), and the catalogue, of zeros where they are refused.
-#[derive(Drop)]
+#[derive(Clone, Copy)]
 pub struct Made {
     pub refusal: usize,
     pub catalogue: Catalogue,
 }
 
 // A row: its table from 0, and its number in it from 1.
-#[derive(Drop)]
+#[derive(Clone, Copy)]
 pub struct Row {
     pub table: usize,
     pub row: usize,

@@ -7,7 +7,7 @@ ghost use Rattle.text.specs.Lines.{no_code, kind_of, act, code_on};
 ghost use Rattle.text.specs.Fields.{field_at, Reads};
 
 // What the grammar tells apart in a byte.
-#[derive(Drop)]
+#[derive(Clone, Copy)]
 pub enum Kind {
     TextByte,
     QuoteByte,
@@ -19,7 +19,7 @@ pub enum Kind {
 
 // Where in a field a byte stands: at its first byte, in a plain one, between quotes,
 // behind a quote in a quoted one (its last, or the first of two), or behind the CR after it.
-#[derive(Drop)]
+#[derive(Clone, Copy)]
 pub enum Form {
     AtStart,
     InPlain,
@@ -29,7 +29,7 @@ pub enum Form {
 }
 
 // What a byte does: it belongs to the field's content, or is a mark around it; it ends the field, or with it the line; or it stands outside the grammar.
-#[derive(Drop)]
+#[derive(Clone, Copy)]
 pub enum Act {
     Takes(Form),
     Marks(Form),
@@ -40,7 +40,7 @@ pub enum Act {
 
 // A field: its code and the place behind what ends it, a comma or the line (CRLF, or the text's end).
 // Or the text ends where the field begins, or no field of the grammar stands there.
-#[derive(Drop)]
+#[derive(Clone, Copy)]
 pub enum Fielded {
     ToComma(u64, usize),
     ToLine(u64, usize),
@@ -49,7 +49,7 @@ pub enum Fielded {
 }
 
 // A field's code and the place behind it.
-#[derive(Drop)]
+#[derive(Clone, Copy)]
 pub struct CodeAt {
     pub code: u64,
     pub next: usize,

@@ -9,7 +9,7 @@ mod checker;
 mod putter;
 
 // The answer of a write: the image's length, or the number of the refusal.
-#[derive(Drop)]
+#[derive(Clone, Copy)]
 pub enum Written {
     Length(usize),
     Refused(usize),

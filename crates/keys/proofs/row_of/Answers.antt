@@ -1,0 +1,20 @@
+-- `keys::row_of` meets its contract: a row of the number is one of the word that its table lies in (`row_first`, `row-second`). Assumes nothing.
+use Prim.Native.Nat.{◌+◌, ◌-◌}
+use mathlib.Core.Path.{◌≡◌, sym, ap, ◌∙◌}
+use native.Mathlib.Omega.{arith}
+use Rattle.keys.specs.Keys.{bits_per_row, row_of}
+use Rattle.keys.specs.TwoWords.{bits_per_word, tables_in_low, number_of}
+use Rattle.keys.proofs.TwoWordLaws.{row_first, row-second}
+use Rattle.keys.proofs.row_of.Goals as goal
+
+pub returns-then-t-lt-TABLES_IN_LOW : goal.returns-then-t-lt-TABLES_IN_LOW
+returns-then-t-lt-TABLES_IN_LOW c = c.row_in.ensures ∙ sym (row_first bits_per_row tables_in_low bits_per_word _ _ _ c.if-t-lt-TABLES_IN_LOW.true)
+
+pub returns : goal.returns
+returns c =
+    let s = c in
+    let u = s.args.t - tables_in_low in
+    let e : tables_in_low + u ≡ s.args.t = omega arith in
+    c.row_in-2.ensures
+    ∙ sym (row-second bits_per_row tables_in_low bits_per_word s.args.key.low s.args.key.high u (omega arith))
+    ∙ ap (row_of bits_per_row (number_of s.args.key)) e

@@ -1,0 +1,11 @@
+-- `rows::rows_there` meets its contract, by one law for each side of n. Assumes nothing.
+use native.Mathlib.Omega.{arith}
+use mathlib.Core.Path.{sym}
+use Rattle.rows.proofs.NamedLaws.{there-in, there_out}
+use Rattle.rows.proofs.rows_there.Goals as goal
+
+pub returns-then-t-cat : goal.returns-then-t-cat
+returns-then-t-cat c = sym (there-in c.args.cat _ c.if-t-cat.true)
+
+pub returns : goal.returns
+returns c = sym (there_out c.args.cat _ (omega (arith, c.if-t-cat.false)))

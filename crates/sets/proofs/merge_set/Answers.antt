@@ -1,0 +1,136 @@
+-- `sets::merge_set` meets its contract. Invariant: the merged row and the tables in reach are those of the set without the tables that are left (`lacking`).
+-- Assumes nothing.
+use native.Mathlib.Omega.{arith}
+use Prim.Native.Nat.{◌<◌}
+use mathlib.Core.Path.{◌≡◌, sym, ◌∙◌}
+use Rattle.words.proofs.WordLaws.{less-lt}
+use Rattle.keys.specs.Keys.{bits_per_row}
+use Rattle.keys.specs.TwoWords.{number_of}
+use Rattle.keys.proofs.SetLaws.{in-at, in-length}
+use Rattle.tables.specs.Sizes.{most_tables}
+use Rattle.disjunction.specs.Sets.{at, Member}
+use Rattle.rows.specs.World.{set_of}
+use Rattle.rows.specs.Named.{There}
+use Rattle.rows.proofs.WorldLaws.{row_room}
+use Rattle.rows.proofs.TouchLaws.{mask-small}
+use Rattle.sets.proofs.MaskLaws.{without-under}
+use Rattle.sets.proofs.MergedLaws.{merged-none, merged-same, merged-add, gathered_none, gathered-same, gathered-add}
+use Rattle.sets.proofs.LackingLaws.{tables-has, tables-lt, lacking-none, lacking-all, lacking-more}
+use Rattle.sets.proofs.RowTestLaws.{start_of}
+use Rattle.sets.proofs.LayoutLaws.{Small, laid-small}
+use Rattle.sets.proofs.merge_set.Goals.{After-lowest-u, After-row_of-r, After-w-1}
+use Rattle.sets.proofs.merge_set.Goals as goal
+
+-- the table of the next row is one of the set's
+listed : (a : After-lowest-u) → Member (set_of a.args.cat (number_of a.args.held.key)) a.lowest-u.result
+listed a =
+    let s = a in
+    tables-has _ _ s.requires.3 _ (a.loop-rest.invariant.0 _ a.lowest-u.ensures.itself)
+
+turn : (a : After-lowest-u) → a.lowest-u.result < a.args.cat.n
+turn a =
+    let s = a in
+    rw (in-length bits_per_row s.args.cat.n (number_of s.args.held.key)) at
+    (tables-lt (set_of s.args.cat (number_of s.args.held.key)) _ s.requires.3 _ (a.loop-rest.invariant.0 _ a.lowest-u.ensures.itself))
+
+eight : (a : After-lowest-u) → a.lowest-u.result < most_tables
+eight a = omega (arith, turn a, a.requires.0.tables)
+
+small : (a : After-lowest-u) → Small a.args.cat a.args.layout a.lowest-u.result
+small a = let s = a in laid-small s.args.cat _ s.requires.0 s.args.cells.now _ s.requires.1 _ (turn a)
+
+pub loop-rest-init : goal.loop-rest-init
+loop-rest-init c =
+    let s = c in
+    let z = lacking-all (set_of s.args.cat (number_of s.args.held.key)) _ s.requires.3 in
+    (λ u b. b, merged-none _ _ _ _ s.requires.4 z, gathered_none _ _ z)
+
+pub bounds-layout-u : goal.bounds-layout-u
+bounds-layout-u c = omega (arith, eight c)
+
+pub overflow_cast-w : goal.overflow_cast-w
+overflow_cast-w c = omega (arith, (small (goal.at.overflow_cast-w c).After-lowest-u).width)
+
+pub offset_bounds-cat-u : goal.offset_bounds-cat-u
+offset_bounds-cat-u c = omega (arith, eight (goal.at.offset_bounds-cat-u c).After-lowest-u)
+
+pub bounds-cat-u : goal.bounds-cat-u
+bounds-cat-u c = omega (arith, eight (goal.at.bounds-cat-u c).After-lowest-u)
+
+pub overflow_cast-base : goal.overflow_cast-base
+overflow_cast-base c = omega (arith, (small (goal.at.overflow_cast-base c).After-lowest-u).place)
+
+pub row_of-r-requires : goal.row_of-r-requires
+row_of-r-requires c = eight (goal.at.row_of-r-requires c).After-w-1
+
+pub offset_bounds-cat-u-in-loop-rest : goal.offset_bounds-cat-u-in-loop-rest
+offset_bounds-cat-u-in-loop-rest c = omega (arith, eight (goal.at.offset_bounds-cat-u-in-loop-rest c).After-w-1)
+
+pub bounds-cat-u-in-loop-rest : goal.bounds-cat-u-in-loop-rest
+bounds-cat-u-in-loop-rest c = omega (arith, eight (goal.at.bounds-cat-u-in-loop-rest c).After-w-1)
+
+own : (q : After-row_of-r) → at (set_of q.args.cat (number_of q.args.held.key)) q.lowest-u.result ≡ q.row_of-r.result
+own q =
+    let s = q in
+    in-at bits_per_row s.args.cat.n (number_of s.args.held.key) _ (turn UP-q-After-lowest-u) ∙ sym q.row_of-r.ensures
+
+there : (q : After-row_of-r) → There q.args.cat q.lowest-u.result q.row_of-r.result
+there q =
+    let s = q in
+    record {
+      table = turn UP-q-After-lowest-u;
+      low = omega (arith, own q, listed UP-q-After-lowest-u);
+      high = omega (arith, q.row_of-r.ensures, s.requires.2.rows _ (turn UP-q-After-lowest-u));
+    }
+
+pub merge_add-attrs-requires : goal.merge_add-attrs-requires
+merge_add-attrs-requires c =
+    let q = c in
+    let a = q in
+    let s = a in (
+      s.requires.1.wide _ (turn (goal.at.merge_add-attrs-requires a).After-lowest-u),
+      (there (goal.at.merge_add-attrs-requires q).After-row_of-r).low,
+      rw (start_of s.args.cat a.lowest-u.result _ _ (s.requires.0.places _ (turn (goal.at.merge_add-attrs-requires a).After-lowest-u))) (row_room _ _ s.requires.0 _ _ (there (goal.at.merge_add-attrs-requires q).After-row_of-r)),
+      a.loop-rest.invariant.1.long,
+    )
+
+pub offset_bounds-cat-u-in-loop-rest-2 : goal.offset_bounds-cat-u-in-loop-rest-2
+offset_bounds-cat-u-in-loop-rest-2 c = omega (arith, eight (goal.at.offset_bounds-cat-u-in-loop-rest-2 c).After-lowest-u)
+
+pub bounds-cat-u-in-loop-rest-2 : goal.bounds-cat-u-in-loop-rest-2
+bounds-cat-u-in-loop-rest-2 c = omega (arith, eight (goal.at.bounds-cat-u-in-loop-rest-2 c).After-lowest-u)
+
+pub overflow_cast-reach : goal.overflow_cast-reach
+overflow_cast-reach c =
+    let a = c in
+    omega (arith, mask-small a.args.cat _ a.requires.0 _ (turn (goal.at.overflow_cast-reach a).After-lowest-u))
+
+pub without_lowest-rest-requires : goal.without_lowest-rest-requires
+without_lowest-rest-requires c = omega (arith, c.loop-rest-test.true)
+
+pub loop-rest-smaller : goal.loop-rest-smaller
+loop-rest-smaller c =
+    let a = c in
+    rw (c.without_lowest-rest.ensures _ a.lowest-u.ensures) (less-lt _ _ a.lowest-u.ensures.itself)
+
+pub loop-rest-preserved : goal.loop-rest-preserved
+loop-rest-preserved c =
+    let q = c in
+    let a = q in
+    let s = a in
+    let l = a in
+    let b = a.lowest-u.ensures.itself in
+    let o = lacking-more (set_of s.args.cat (number_of s.args.held.key)) l.loop-rest.rest a.lowest-u.result b _ (own (goal.at.loop-rest-preserved q).After-row_of-r) (there (goal.at.loop-rest-preserved q).After-row_of-r).low in
+    rw (c.without_lowest-rest.ensures _ a.lowest-u.ensures) (
+      λ u d. l.loop-rest.invariant.0 u (without-under _ _ b u d),
+      merged-add s.args.cat s.args.cells.now _ s.requires.0 _ _ _ _ (turn (goal.at.loop-rest-preserved a).After-lowest-u) o _ _ _ _ l.loop-rest.invariant.1
+          (rw (← start_of s.args.cat a.lowest-u.result q.row_of-r.result _ (s.requires.0.places _ (turn (goal.at.loop-rest-preserved a).After-lowest-u))) c.merge_add-attrs.ensures),
+      gathered-add _ _ _ _ _ _ o l.loop-rest.invariant.2,
+    )
+
+pub returns : goal.returns
+returns c =
+    let l = c in
+    let s = l in
+    let z = lacking-none (set_of s.args.cat (number_of s.args.held.key)) in
+    (merged-same _ _ _ _ _ _ z (rw c.loop-rest-test.false at l.loop-rest.invariant.1), gathered-same _ _ _ _ z (rw c.loop-rest-test.false at l.loop-rest.invariant.2))

@@ -1,0 +1,42 @@
+-- `sets::rising_tables` meets its contract. Invariant: the tables of the mask so far have a first column that does not fall. Assumes nothing.
+use native.Mathlib.Omega.{arith}
+use Prim.Native.Nat.{◌-◌}
+use mathlib.Core.Logic.{⊎_elim}
+use lib.Count.{ones-le}
+use Rattle.tables.specs.Catalogues.{scheme_of}
+use Rattle.tables.proofs.CatalogueLaws.{one_shl, table-ends, some-cell}
+use Rattle.walks.specs.Merged.{merged_length}
+use Rattle.sets.proofs.LayoutLaws.{scheme-narrow, rising_none, rising-more}
+use Rattle.sets.proofs.rising_tables.Goals as goal
+
+pub loop-t-init : goal.loop-t-init
+loop-t-init c = rising_none _ _
+
+pub rises-requires : goal.rises-requires
+rises-requires c =
+    let o = c in
+    let s = o in
+    let b = o.loop-t-test.true in
+    let n = scheme-narrow s.args.cat _ s.requires.0 _ b in
+    rw (s.requires.1.wide _ b, s.requires.0.places _ b) (
+      ones-le merged_length _ n,
+      omega (arith, table-ends s.args.cat _ b, s.requires.0.room, some-cell 64 (scheme_of s.args.cat o.loop-t.t) n (s.requires.0.some-scheme _ b)),
+    )
+
+pub loop-t-preserved : goal.loop-t-preserved
+loop-t-preserved c =
+    let r = c in
+    let o = r in
+    let l = o in
+    let s = l in
+    let b = o.loop-t-test.true in
+    ⊎_elim
+    (λ x.
+    rw x.1
+    (rising-more s.args.cat s.args.cells.now l.loop-t.t _ _ l.loop-t.invariant (one_shl l.loop-t.t (omega (arith, b, s.requires.0.tables)))
+    (rw (s.requires.1.wide _ b, s.requires.0.places _ b) at (r.rises.ensures x.0.taken))))
+    (λ x. rw x.1 l.loop-t.invariant)
+    c.if-rises.branch
+
+pub returns : goal.returns
+returns c = c.loop-t.invariant

@@ -1,0 +1,35 @@
+-- `sets::tables_in` meets its contract. Invariant: the mask has the tables below u that have a row in the key. Assumes nothing.
+use native.Mathlib.Omega.{arith}
+use Prim.Native.Nat.{◌-◌}
+use mathlib.Core.Path.{sym, ◌∙◌}
+use mathlib.Core.Logic.{⊎_elim}
+use Rattle.keys.specs.Keys.{bits_per_row}
+use Rattle.keys.specs.TwoWords.{number_of}
+use Rattle.keys.proofs.SetLaws.{in-at, in-past}
+use Rattle.tables.proofs.CatalogueLaws.{one_shl}
+use Rattle.sets.proofs.LackingLaws.{marked-none, marked_row, marked-skip, marked-end}
+use Rattle.sets.proofs.tables_in.Goals as goal
+
+pub loop-u-init : goal.loop-u-init
+loop-u-init c = (omega arith, marked-none _)
+
+pub loop-u-preserved : goal.loop-u-preserved
+loop-u-preserved c =
+    let l = c in
+    let s = l in
+    let b = c.loop-u-test.true in
+    let own = in-at bits_per_row s.args.cat.n (number_of s.args.key) l.loop-u.u b ∙ sym c.row_of.ensures in (
+      omega (arith, b),
+      ⊎_elim
+          (λ w.
+          rw w.1
+          (marked_row _ _ l.loop-u.u l.loop-u.invariant.1 (omega (arith, own, w.0.taken)) _ (one_shl l.loop-u.u (omega (arith, b, s.requires.tables)))))
+          (λ w. rw w.1 (marked-skip _ _ l.loop-u.u l.loop-u.invariant.1 (own ∙ w.0.left)))
+          c.if-row_of-ne0.branch,
+    )
+
+pub returns : goal.returns
+returns c =
+    let l = c in
+    let s = l in
+    marked-end _ _ l.loop-u.u l.loop-u.invariant.1 (λ v h. in-past bits_per_row s.args.cat.n (number_of s.args.key) v (omega (arith, h, c.loop-u-test.false)))

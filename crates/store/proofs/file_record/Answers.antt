@@ -1,0 +1,17 @@
+-- `store::file_record` meets its contract: its four stores are those of `filed`. Assumes nothing.
+use Prim.Native.Nat.{ℕ}
+use mathlib.Core.Path.{refl, ap}
+use lib.ListN.{set}
+use Rattle.store.specs.Store.{filed}
+use Rattle.store.proofs.file_record.Goals as goal
+
+pub returns : goal.returns
+unfolding filed
+returns c =
+    let s = c in
+    record {
+      low = ap (λ (x : ℕ). set s.args.low.now s.args.at x) c.low_word.ensures;
+      high = ap (λ (x : ℕ). set s.args.high.now s.args.at x) c.high_word_lem.ensures;
+      left = refl;
+      right = refl;
+    }

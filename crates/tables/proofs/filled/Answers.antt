@@ -1,0 +1,63 @@
+-- `tables::filled` meets its contract. Invariant: the sum is the cells of the tables below t, and these are entered in both lists. Assumes nothing.
+use native.Mathlib.Omega.{arith}
+use Prim.Native.Nat.{ℕ, ◌+◌, ◌-◌, ◌*◌, ◌≤◌, ◌<◌}
+use mathlib.Core.Path.{◌≡◌, refl, ap₂}
+use mathlib.Core.List.{List}
+use lib.Count.{ones}
+use Rattle.tables.specs.declared.Catalogue.{Catalogue}
+use Rattle.tables.specs.Sizes.{most_tables, most_cells}
+use Rattle.tables.specs.Catalogues.{scheme_of, count_of, first_cell, touching_of}
+use Rattle.tables.proofs.CatalogueLaws.{cells-next, cells-mono, table-ends}
+use Rattle.tables.proofs.StoredLaws.{entered-none, entered-next, entered_all}
+use Rattle.tables.proofs.filled.Goals.{In-loop-t}
+use Rattle.tables.proofs.filled.Goals as goal
+
+-- The table is one of eight.
+few : (c : In-loop-t) → c.loop-t.t < most_tables
+few c = omega (arith, c.loop-t-test.true, c.requires.0)
+
+pub loop-t-init : goal.loop-t-init
+unfolding first_cell
+loop-t-init c = (omega arith, refl, entered-none _, entered-none _)
+
+pub overflow_cast-places : goal.overflow_cast-places
+overflow_cast-places c =
+    let l = c.loop-t in
+    omega (arith, l.invariant.1, cells-mono c.args.cat l.t c.args.cat.n (omega (arith, c.loop-t-test.true)), c.requires.1)
+
+-- The sum with table t's cells.
+ends : (c : In-loop-t)
+    → c.loop-t.at + count_of c.args.cat c.loop-t.t * ones (scheme_of c.args.cat c.loop-t.t) ≤ most_cells
+ends c =
+    let l = c in
+    omega (arith, l.loop-t.invariant.1, table-ends l.args.cat l.loop-t.t c.loop-t-test.true, l.requires.1)
+
+pub overflow_mul-at : goal.overflow_mul-at
+overflow_mul-at c = rw c.width.ensures (omega (arith, ends (goal.at.overflow_mul-at c).In-loop-t))
+
+pub overflow_add-at : goal.overflow_add-at
+overflow_add-at c = rw c.width.ensures (omega (arith, ends (goal.at.overflow_add-at c).In-loop-t))
+
+pub loop-t-preserved : goal.loop-t-preserved
+loop-t-preserved c =
+    let l = c in
+    let v = l.loop-t.invariant in
+    let h = few (goal.at.loop-t-preserved c).In-loop-t in (
+      omega (arith, c.loop-t-test.true),
+      rw (c.width.ensures, cells-next l.args.cat l.loop-t.t, ← v.1),
+      entered-next (first_cell l.args.cat) l.loop-t.places l.loop-t.t l.loop-t.at h v.1 v.2,
+      entered-next (touching_of l.args.cat) l.loop-t.touching l.loop-t.t _ h c.touching_of.ensures v.3,
+    )
+
+-- The catalogue with these two lists.
+abbrev storing : Catalogue → List ℕ → List ℕ → Catalogue
+storing cat places touching =
+    record { m = cat.m; n = cat.n; schemes = cat.schemes; rows = cat.rows; places = places; touching = touching }
+
+pub returns : goal.returns
+returns c =
+    let l = c in
+    let e : l.loop-t.t ≡ l.args.cat.n = omega (arith, c.loop-t-test.false, l.loop-t.invariant.0) in
+    ap₂ (storing l.args.cat)
+    (entered_all _ _ _ l.requires.0 (rw e at l.loop-t.invariant.2))
+    (entered_all _ _ _ l.requires.0 (rw e at l.loop-t.invariant.3))

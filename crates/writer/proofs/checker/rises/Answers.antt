@@ -1,0 +1,39 @@
+-- `writer::checker::rises` meets its contract. Invariant: all codes passed are equal, so the rows that are left decide. Assumes nothing.
+use native.Mathlib.Omega.{arith}
+use Prim.Native.Nat.{ℕ, ◌+◌, ◌-◌, ◌<◌}
+use mathlib.Core.Path.{◌≡◌, refl, sym, ◌∙◌}
+use mathlib.Core.List.{List, ◌∷◌}
+use lib.ListN.{length, get_or}
+use Rattle.laws.specs.Lists.{part}
+use Rattle.laws.proofs.ListLaws.{part_none, part-more}
+use Rattle.tables.specs.Rows.{below}
+use Rattle.tables.proofs.RowLaws.{below_none, below-lt, below-gt, below_eq}
+use Rattle.writer.proofs.checker.rises.Goals as goal
+
+-- Two rows that are not at their end, by their first codes.
+heads : (cells : List ℕ) (i j k : ℕ) → 0 < k → i < length cells → j < length cells
+    → below (part i k cells) (part j k cells) ≡ below (get_or cells i 0 ∷ part (i + 1) (k - 1) cells) (get_or cells j 0 ∷ part (j + 1) (k - 1) cells)
+heads cells i j k z h l = rw (part-more i k cells z h, part-more j k cells z l)
+
+pub loop-left-init : goal.loop-left-init
+loop-left-init c = (omega arith, omega arith, refl)
+
+pub returns-then-x-y : goal.returns-then-x-y
+returns-then-x-y c =
+    let l = c.loop-left in
+    sym (l.invariant.2 ∙ heads _ l.i l.j l.left (omega arith) (omega arith) (omega arith) ∙ below-lt _ _ _ _ c.if-x-y.true)
+
+pub returns-then-y-x : goal.returns-then-y-x
+returns-then-y-x c =
+    let l = c.loop-left in
+    sym (l.invariant.2 ∙ heads _ l.i l.j l.left (omega arith) (omega arith) (omega arith) ∙ below-gt _ _ _ _ c.if-y-x.true)
+
+pub loop-left-preserved : goal.loop-left-preserved
+loop-left-preserved c =
+    let l = c.loop-left in
+    (omega arith, omega arith, l.invariant.2 ∙ heads _ l.i l.j l.left (omega arith) (omega arith) (omega arith) ∙ below_eq _ _ _ _ (omega arith) (omega arith))
+
+pub returns : goal.returns
+returns c =
+    let l = c.loop-left in
+    sym (l.invariant.2 ∙ rw (part_none l.i l.left _ (omega arith)) (below_none _))

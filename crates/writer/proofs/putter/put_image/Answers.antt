@@ -1,0 +1,80 @@
+-- `writer::putter::put_image` meets its contract. Invariant: the tables that are left, from the cursor on, make the whole answer. Assumes nothing.
+use native.Mathlib.Omega.{arith}
+use Prim.Native.Nat.{ℕ, ◌+◌, ◌-◌, ◌≤◌}
+use mathlib.Core.Path.{◌≡◌, refl, sym, ap, ◌∙◌}
+use mathlib.Core.List.{List}
+use lib.ListN.{length}
+use Rattle.laws.specs.Lists.{put}
+use Rattle.laws.proofs.ListLaws.{put-nil}
+use Rattle.tables.specs.Catalogues.{place_in}
+use Rattle.writer.specs.Write.{tables_image, head_bytes}
+use Rattle.writer.proofs.AcceptLaws.{fault-accepted}
+use Rattle.laws.proofs.PlacedLaws.{placed-length, placed-rest}
+use Rattle.writer.proofs.WriteLaws.{table_bytes, Table, table-good, head-length, image-none, image-head}
+use Rattle.writer.proofs.putter.put_image.Goals.{After-put_head-at, After-width}
+use Rattle.writer.proofs.putter.put_image.Goals as goal
+
+-- There is room for the head.
+room : (c : After-put_head-at) → 0 + length (head_bytes c.args.cat) ≤ length c.args.out.now
+room c =
+    let p = c in
+    omega (arith, head-length p.args.cat p.args.cells.now, p.requires.1)
+
+-- What the table at hand has,
+here : (c : After-width)
+    → (let l = c in
+    Table l.args.cat l.args.cells.now l.loop-t.t (place_in l.args.cat l.loop-t.t) c.width.result)
+here c = let l = c in table-good _ _ l.requires.0 l.loop-t.t c.width.result c.loop-t-test.true c.width.ensures
+
+-- and there is room for it.
+fits : (c : After-width)
+    → (let l = c in
+    l.loop-t.at + length (table_bytes l.args.cat l.args.cells.now l.loop-t.t (place_in l.args.cat l.loop-t.t) c.width.result)
+    ≤ length l.loop-t.out)
+fits c =
+    let l = c in
+    omega (arith, (here c).size, l.loop-t.invariant.1, l.loop-t.invariant.2, placed-length (room UP-l-After-put_head-at) l.put_head-at.ensures, l.requires.1)
+
+pub put_head-at-requires : goal.put_head-at-requires
+put_head-at-requires c =
+    let p = c in
+    let L = (fault-accepted _ _ p.requires.0).lawful in
+    (L.attributes, L.tables, omega (arith, head-length p.args.cat p.args.cells.now, p.requires.1))
+
+pub loop-t-init : goal.loop-t-init
+loop-t-init c =
+    let p = c in
+    let cat = p.args.cat in
+    let h = c.put_head-at.ensures in
+    let e : cat.n - 0 ≡ cat.n = omega arith in
+    (omega arith, refl, rw e (omega (arith, h.next, head-length cat p.args.cells.now)), rw e, (fault-accepted _ _ p.requires.0).lawful.tables)
+
+pub overflow_mul-count : goal.overflow_mul-count
+overflow_mul-count c = omega (arith, (here c).most)
+
+pub put_table-at-requires : goal.put_table-at-requires
+put_table-at-requires c =
+    let g = here (goal.at.put_table-at-requires c).After-width in
+    (g.scheme, omega (arith, g.rows), g.inside, g.low, omega (arith, g.three, fits (goal.at.put_table-at-requires c).After-width))
+
+pub loop-t-preserved : goal.loop-t-preserved
+loop-t-preserved c =
+    let d = c in
+    let l = d.loop-t in
+    let w = c.put_table-at.ensures in
+    let g = here (goal.at.loop-t-preserved d).After-width in
+    let f = fits (goal.at.loop-t-preserved d).After-width in (
+      omega (arith, d.loop-t-test.true),
+      placed-length f w ∙ l.inv.1,
+      omega (arith, w.next, g.size, l.inv.2),
+      l.inv.3 ∙ rw g.bytes (placed-rest f w _),
+      l.inv.4,
+    )
+
+pub returns : goal.returns
+returns c =
+    let l = c.loop-t in
+    let h = c in
+    let a = c.args in
+    let whole = ap (λ (bs : List ℕ). put bs a.out.now) (image-head a.t1 a.cells.now) ∙ placed-rest (room (goal.at.returns h).After-put_head-at) h.put_head-at.ensures (tables_image a.t1.n a.t1 a.cells.now 0) in
+    sym (whole ∙ l.invariant.3 ∙ rw (image-none a.t1 a.cells.now (a.t1.n - l.t) l.t (omega arith)) (put-nil l.out l.at))
