@@ -7,6 +7,7 @@ use mathlib.Core.Logic.{⊎_elim}
 use lib.ListN.{get_or}
 use lib.Dec.{ltb, eqb}
 use borrow.Author.Tests.{le-ltb, eqb-true}
+use Rattle.std.proofs.lemmas.Bool.{ne_eqb}
 use Rattle.numbers.specs.Numbers.{most_bytes, decode}
 use Rattle.numbers.proofs.DecodeLaws.{decode-none, decode-end, decode-zero, decode-last, decode-more, room, less-room, group}
 use Rattle.numbers.proofs.read.Goals as goal
@@ -48,8 +49,8 @@ returns-then-b-lt128 c =
     let l = c.loop-left in
     let s = c.args.s.now in
     let q : (ltb 1 l.w && eqb (get_or s l.i 0) 0) ≡ false =
-    ⊎_elim (λ k. ap (λ (t : Bool). ltb 1 l.w && t) k.1.left ∙ and-false (ltb 1 l.w))
-    (λ k. ap (λ (t : Bool). t && eqb (get_or s l.i 0) 0) (le-ltb 1 l.w k.left)) c.else-w-gt1.branch in
+    ⊎_elim (λ k. ap (λ (t : Bool). ltb 1 l.w && t) (ne_eqb _ _ k.1) ∙ and-false (ltb 1 l.w))
+    (λ k. ap (λ (t : Bool). t && eqb (get_or s l.i 0) 0) (le-ltb 1 l.w k)) c.else-w-gt1.either in
     sym (l.invariant.2 ∙ decode-last l.left l.w l.v s l.i (omega arith) (omega arith) c.if-b-lt128.true q)
 
 pub overflow_mul-v : goal.overflow_mul-v

@@ -9,7 +9,7 @@ use Rattle.sets.proofs.parted.Given as goal
 
 abbrev pub invariant-loop-rest : goal.invariant-loop-rest
 invariant-loop-rest l =
-    Parting l.cat l.cells (set_of l.cat (number_of l.held.key)) (record { table = l.table; l.row = l.row }) (bit_and l.held.tables (mask_in l.cat l.table)) l.gone l.rest
+    Parting l.cat l.cells (set_of l.cat (number_of l.held.key)) (record { table = l.table; row = l.row }) (bit_and l.held.tables (mask_in l.cat l.table)) l.gone l.rest
 
 abbrev pub decreases-loop-rest : goal.decreases-loop-rest
 decreases-loop-rest l = l.rest
