@@ -9,7 +9,7 @@ use Rattle.store.specs.Store.{store_in, search_of}
 use Rattle.store.proofs.StoreLaws.{absent-place}
 use Rattle.hub.specs.Promises.{listed_keys}
 use Rattle.hub.proofs.TreeLaws.{keys_length, keys-at, keys-both, enters-first, enters-late, enters-known, enters-new, never-damaged}
-use Rattle.hub.proofs.enter.Goals.{After-find, After-key_at-word}
+use Rattle.hub.proofs.enter.Goals.{After-find, After-key_at-word, After-slice_known-1}
 use Rattle.hub.proofs.enter.Goals as goal
 
 pub key_at-word-requires : goal.key_at-word-requires
@@ -53,7 +53,7 @@ find-requires c =
 seeks : (c : After-find)
     → let s = c.before in
     c.find.result ≡ search_of (store_in s.args.low.now s.args.high.now s.args.left.now s.args.right.now s.args.i) (get_or (listed_keys s.args.low.now s.args.high.now) s.args.i 0) (bits_per_row * s.args.n)
-seeks c = rw (c.key_bits-bits.ensures, own UP-c-After-slice_known-1) at c.find.ensures
+seeks c = rw (c.key_bits-bits.ensures, own (goal.at-After-find c).After-slice_known-1) at c.find.ensures
 
 pub hang-requires : goal.hang-requires
 hang-requires c =
