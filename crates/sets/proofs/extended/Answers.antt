@@ -219,7 +219,7 @@ bounds-cat-t-in-rounds-3 c = omega (arith, eight ((goal.at.bounds-cat-t-in-round
 pub overflow_cast-reach : goal.overflow_cast-reach
 overflow_cast-reach c =
     let a = (goal.at.overflow_cast-reach c).After-lowest-t.before in
-    omega (arith, mask-small (start (walk a)).args.cat _ (start (walk a)).requires.0 _ (turn a))
+    omega (arith, mask-small (start (walk a)).args.cat _ (start (walk a)).requires.0 _ (turn (goal.at.overflow_cast-reach a).After-lowest-t))
 
 pub with_row-key-requires : goal.with_row-key-requires
 with_row-key-requires c =
@@ -255,7 +255,7 @@ pub overflow_add-tests-in-rounds : goal.overflow_add-tests-in-rounds
 overflow_add-tests-in-rounds c = omega (arith, sums (goal.at.overflow_add-tests-in-rounds c).After-tests-1)
 
 pub rounds-smaller : goal.rounds-smaller
-rounds-smaller c = let a = (goal.at.rounds-smaller c).After-lowest-t.before in omega (arith, fewer a, (walk a).loop-live.invariant.1)
+rounds-smaller c = let a = (goal.at.rounds-smaller c).After-lowest-t.before in omega (arith, fewer (goal.at.rounds-smaller a).After-lowest-t, (walk a).loop-live.invariant.1)
 
 pub rounds-preserved : goal.rounds-preserved
 rounds-preserved c =

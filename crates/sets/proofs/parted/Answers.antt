@@ -25,7 +25,7 @@ use Rattle.sets.proofs.MergedLaws.{shared-under}
 use Rattle.sets.proofs.RowTestLaws.{start_of}
 use Rattle.sets.proofs.LayoutLaws.{Small, laid-small}
 use Rattle.sets.proofs.Dropping.{merged-one, near-member, near-table, parting-start, parting-goes, parting-stays, parting-end}
-use Rattle.sets.proofs.parted.Goals.{After-lowest-u, After-row_of-q, After-scheme-1, Start}
+use Rattle.sets.proofs.parted.Goals.{After-lowest-u, After-row_of-q, Start}
 use Rattle.sets.proofs.parted.Goals as goal
 
 -- the set, and how long it is
@@ -88,7 +88,7 @@ pub bounds-cat-u : goal.bounds-cat-u
 bounds-cat-u c = omega (arith, eight c)
 
 pub row_of-q-requires : goal.row_of-q-requires
-row_of-q-requires c = eight (goal.at.row_of-q-requires c).After-scheme-1
+row_of-q-requires c = eight (goal.at.row_of-q-requires c).After-lowest-u
 
 -- its row, as the code reads it
 own : (q : After-row_of-q) → at (set-of UP-q-Start) q.lowest-u.result ≡ q.row_of-q.result
