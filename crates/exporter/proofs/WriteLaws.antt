@@ -10,7 +10,7 @@ use lib.Seq.{take_at}
 use lib.Count.{ones}
 use borrow.Author.Tests.{lt-ltb, le-ltb}
 use Rattle.laws.specs.Lists.{put, part}
-use Rattle.tables.specs.Checks.{first_of}
+use Rattle.tables.specs.Checks.{first_met}
 use Rattle.text.specs.Reading.{scheme_from}
 use Rattle.text.specs.Writing.{attribute_codes, line_text, lines_text, text_of, cut, table_fault, all_fault, write_fault, wrote, unwritten, wrote_of, write_of, output_after}
 use Rattle.text.specs.Refusals.{TablePasses, TableMeets}
@@ -30,7 +30,7 @@ no-fault m x count lent e = by (table-ways m x count lent)
     by (inl p) = p
     by (inr (k, t)) = absurd (omega (arith, table-some m x count lent t, table-says m x count lent t))
 
-first-none : (a b : ℕ) → first_of a b ≡ 0 → a ≡ 0
+first-none : (a b : ℕ) → first_met a b ≡ 0 → a ≡ 0
 first-none zero b e = refl
 first-none (suc a) b e = absurd (omega arith)
 
