@@ -5,7 +5,7 @@ use lib.Count.{ones}
 use Rattle.tables.specs.Rows.{below}
 use Rattle.lines.specs.Decimals.{decimal}
 use Rattle.tables.specs.Checks.{bad_scheme}
-use Rattle.text.specs.Lines.{lines_from, act, kind_of, is_digit, code_on}
+use Rattle.text.specs.Lines.{lines_from, kind_of, is_digit, code_on}
 use Rattle.text.specs.Reading.{table, refused, header_fault, scheme_from, cell_fault, insert, counted, rows_from, headed, read_of}
 use Rattle.text.specs.Writing.{cell_text, rest_text, line_text, lines_text, attribute_codes, text_of, cut, too_high, rows_fault, all_fault, table_fault, write_fault, wrote, unwritten, write_of}
 

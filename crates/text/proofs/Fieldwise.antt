@@ -6,7 +6,7 @@ use mathlib.Core.Path.{◌≡◌, refl, sym, ap, ◌∙◌}
 use mathlib.Core.List.{List, [], ◌∷◌, ◌++◌}
 use lib.ListN.{length, get_or, drop, length-drop, drop_of_length-le}
 use lib.Seq.{drop-cons, drop-drop}
-use Rattle.text.specs.Lines.{Lines, done, line, on_act, lines_from, kind_of, code_on, act}
+use Rattle.text.specs.Lines.{done, line, on_act, lines_from, kind_of, code_on, act}
 use Rattle.text.specs.declared.Form.{Form}
 use Rattle.text.specs.declared.Form.TheVariants.{AtStart, InPlain, InQuotes, AfterQuote, AfterCr}
 use Rattle.text.specs.declared.Act.{Act}

@@ -142,7 +142,7 @@ module _ (m room : ℕ) (small : m ≤ most_attributes) where
         (z, wide-snoc w rows codes wide (sym (ap length e) ∙ length-codes fields ∙ n)),
       )
 
-  pub reaches-says : {d : Due} {s t : List ℕ} → Reaches m s d t → (headed m room (lines_from s AtStart 0 []) ≡ told d t) × Sound d
+  pub reaches-says : {s : List ℕ} {d : Due} {t : List ℕ} → Reaches m s d t → (headed m room (lines_from s AtStart 0 []) ≡ told d t) × Sound d
   reaches-says start = (refl, tt)
   reaches-says (on r p) =
       let (e, k) = reaches-says r in

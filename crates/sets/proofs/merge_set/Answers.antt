@@ -72,15 +72,15 @@ bounds-cat-u-in-loop-rest c = omega (arith, eight (goal.at.bounds-cat-u-in-loop-
 own : (q : After-row_of-r) → at (set_of q.args.cat (number_of q.args.held.key)) q.lowest-u.result ≡ q.row_of-r.result
 own q =
     let s = q in
-    in-at bits_per_row s.args.cat.n (number_of s.args.held.key) _ (turn UP-q-After-lowest-u) ∙ sym q.row_of-r.ensures
+    in-at bits_per_row s.args.cat.n (number_of s.args.held.key) _ (turn (goal.at-After-row_of-r q).After-lowest-u) ∙ sym q.row_of-r.ensures
 
 there : (q : After-row_of-r) → There q.args.cat q.lowest-u.result q.row_of-r.result
 there q =
     let s = q in
     record {
-      table = turn UP-q-After-lowest-u;
-      low = omega (arith, own q, listed UP-q-After-lowest-u);
-      high = omega (arith, q.row_of-r.ensures, s.requires.2.rows _ (turn UP-q-After-lowest-u));
+      table = turn (goal.at-After-row_of-r q).After-lowest-u;
+      low = omega (arith, own q, listed (goal.at-After-row_of-r q).After-lowest-u);
+      high = omega (arith, q.row_of-r.ensures, s.requires.2.rows _ (turn (goal.at-After-row_of-r q).After-lowest-u));
     }
 
 pub merge_add-attrs-requires : goal.merge_add-attrs-requires

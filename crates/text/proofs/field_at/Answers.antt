@@ -1,9 +1,8 @@
 -- `text::field_at` meets its contract. Invariant: the field goes on here, in this form and with this code, and what it then is the whole answer.
 -- Assumes nothing.
 use native.Mathlib.Omega.{arith}
-use Prim.Native.Nat.{ℕ, ◌+◌, ◌-◌, ◌≤◌, ◌<◌}
+use Prim.Native.Nat.{ℕ, ◌+◌, ◌≤◌, ◌<◌}
 use mathlib.Core.Path.{◌≡◌, sym, ap, ◌∙◌}
-use mathlib.Core.Logic.{⊎_elim}
 use mathlib.Core.List.{List}
 use lib.ListN.{length, get_or, drop}
 use Rattle.text.specs.Lines.{no_code, kind_of, code_on, act}
@@ -15,6 +14,7 @@ use Rattle.text.specs.Fields.{field_end, field_on, field_from, field_at}
 use Rattle.text.proofs.Fieldwise.{field-on, field-ends}
 use Rattle.text.proofs.field_at.Invariants.{On}
 use Rattle.text.proofs.field_at.Goals as goal
+use Rattle.text.proofs.field_at.Goals.{in-Takes, in-Marks}
 
 -- What the byte does, by what was asked of its kind.
 does : (f : Form) (b : ℕ) {k : Kind} {r a : Act} → k ≡ kind_of b → r ≡ act f k → r ≡ a → act f (kind_of b) ≡ a
@@ -35,63 +35,56 @@ module _ (s : List ℕ) (at : ℕ) (f : Form) (c i : ℕ) (on : On s at f c i) w
 
 pub returns-in-NextField : goal.returns-in-NextField
 returns-in-NextField c =
-    let b = c in
-    let l = b.loop-i in
-    ends b.args.text.now b.args.at l.form l.code l.i l.invariant NextField b.loop-i-test.true
+    let l = c.loop-i in
+    ends c.args.text.now c.args.at l.form l.code l.i l.invariant NextField c.loop-i-test.true
     (does l.form _ c.kind_of.ensures c.act_of.ensures c.in-NextField.is)
 
 pub returns-in-NextLine : goal.returns-in-NextLine
 returns-in-NextLine c =
-    let b = c in
-    let l = b.loop-i in
-    ends b.args.text.now b.args.at l.form l.code l.i l.invariant NextLine b.loop-i-test.true
+    let l = c.loop-i in
+    ends c.args.text.now c.args.at l.form l.code l.i l.invariant NextLine c.loop-i-test.true
     (does l.form _ c.kind_of.ensures c.act_of.ensures c.in-NextLine.is)
 
 pub returns-in-Breaks : goal.returns-in-Breaks
 returns-in-Breaks c =
-    let b = c in
-    let l = b.loop-i in
-    ends b.args.text.now b.args.at l.form l.code l.i l.invariant Breaks b.loop-i-test.true
+    let l = c.loop-i in
+    ends c.args.text.now c.args.at l.form l.code l.i l.invariant Breaks c.loop-i-test.true
     (does l.form _ c.kind_of.ensures c.act_of.ensures c.in-Breaks.is)
 
 pub loop-i-preserved : goal.loop-i-preserved
 loop-i-preserved c =
-    let b = c in
-    let l = b.loop-i in
-    let a = b.args in
-    ⊎_elim
-    (λ v. taken a.text.now a.at l.form l.code l.i l.invariant _ _ _ _ b.loop-i-test.true
-    (does l.form _ c.kind_of.ensures c.act_of.ensures v.1.given.1) v.4 v.5 v.3.ensures)
-    (λ v. marked a.text.now a.at l.form l.code l.i l.invariant _ _ _ b.loop-i-test.true
-    (does l.form _ c.kind_of.ensures c.act_of.ensures v.1.given.1) v.3 v.4)
-    c.match-act_of.branch
+    let l = c.loop-i in
+    let a = c.args in
+    elim c.match-act_of.branch [
+      | in-Takes w ↦
+          taken a.text.now a.at l.form l.code l.i l.invariant _ _ _ _ c.loop-i-test.true
+          (does l.form _ c.kind_of.ensures c.act_of.ensures w.in-Takes.is) w.form-is w.code-is w.code_on-code.ensures
+      | in-Marks w ↦
+          marked a.text.now a.at l.form l.code l.i l.invariant _ _ _ c.loop-i-test.true
+          (does l.form _ c.kind_of.ensures c.act_of.ensures w.in-Marks.is) w.form-is w.code-is
+    ]
 
 pub returns-in-AtStart : goal.returns-in-AtStart
 returns-in-AtStart c =
-    let b = c in
-    let l = b.loop-i in
-    over b.args.text.now b.args.at l.form l.code l.i l.invariant (omega (arith, b.loop-i-test.false)) c.in-AtStart.is
+    let l = c.loop-i in
+    over c.args.text.now c.args.at l.form l.code l.i l.invariant (omega (arith, c.loop-i-test.false)) c.in-AtStart.is
 
 pub returns-in-InPlain : goal.returns-in-InPlain
 returns-in-InPlain c =
-    let b = c in
-    let l = b.loop-i in
-    over b.args.text.now b.args.at l.form l.code l.i l.invariant (omega (arith, b.loop-i-test.false)) c.in-InPlain.is
+    let l = c.loop-i in
+    over c.args.text.now c.args.at l.form l.code l.i l.invariant (omega (arith, c.loop-i-test.false)) c.in-InPlain.is
 
 pub returns-in-AfterQuote : goal.returns-in-AfterQuote
 returns-in-AfterQuote c =
-    let b = c in
-    let l = b.loop-i in
-    over b.args.text.now b.args.at l.form l.code l.i l.invariant (omega (arith, b.loop-i-test.false)) c.in-AfterQuote.is
+    let l = c.loop-i in
+    over c.args.text.now c.args.at l.form l.code l.i l.invariant (omega (arith, c.loop-i-test.false)) c.in-AfterQuote.is
 
 pub returns-in-InQuotes : goal.returns-in-InQuotes
 returns-in-InQuotes c =
-    let b = c in
-    let l = b.loop-i in
-    over b.args.text.now b.args.at l.form l.code l.i l.invariant (omega (arith, b.loop-i-test.false)) c.in-InQuotes.is
+    let l = c.loop-i in
+    over c.args.text.now c.args.at l.form l.code l.i l.invariant (omega (arith, c.loop-i-test.false)) c.in-InQuotes.is
 
 pub returns-in-AfterCr : goal.returns-in-AfterCr
 returns-in-AfterCr c =
-    let b = c in
-    let l = b.loop-i in
-    over b.args.text.now b.args.at l.form l.code l.i l.invariant (omega (arith, b.loop-i-test.false)) c.in-AfterCr.is
+    let l = c.loop-i in
+    over c.args.text.now c.args.at l.form l.code l.i l.invariant (omega (arith, c.loop-i-test.false)) c.in-AfterCr.is
