@@ -2,15 +2,12 @@
 use borrow.Author.Count.{below_more}
 use borrow.Author.Tests.{not-true, not-false}
 use native.Mathlib.Omega.{arith}
-use Prim.Native.Nat.{ℕ, ◌-◌, ◌<◌}
+use Prim.Native.Nat.{ℕ, ◌<◌}
 use mathlib.Core.Path.{◌≡◌, refl, sym, ◌∙◌}
-use mathlib.Core.Bool.{false}
 use mathlib.Core.List.{List}
 use lib.ListN.{length, get_or}
 use Rattle.keys.specs.TwoWords.{number_in}
-use Rattle.rows.specs.World.{world_of}
-use Rattle.hub.specs.Verdicts.{spoilt}
-use Rattle.hub.specs.Promises.{word_sets, listed_keys}
+use Rattle.hub.specs.Promises.{listed_keys}
 use Rattle.hub.proofs.TreeLaws.{keys-at, keys-both}
 use Rattle.hub.proofs.JudgingLaws.{standing-named, spoilt-lost, spoilt-new}
 use Rattle.hub.proofs.first_spoilt.Goals as goal
