@@ -10,4 +10,4 @@ number_of-requires c = rw c.scan-r.ensures (scan-near c.args.image.now 8192)
 
 pub returns : goal.returns
 unfolding check_of
-returns c = c.number_of_lem.ensures ∙ rw c.scan-r.ensures
+returns c = c.number_of.ensures ∙ rw c.scan-r.ensures

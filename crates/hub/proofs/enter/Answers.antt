@@ -29,13 +29,13 @@ returns-then-i-eq0 c =
 pub in_list-requires : goal.in_list-requires
 in_list-requires c =
     let p = c.before.requires in
-    (p.0, omega (arith, p.1), rw (own (goal.at.in_list-requires c).After-slice_known-1) p.2, p.3)
+    (p.0, omega (arith, p.1), rw (own (goal.at.in_list-requires c).After-key_at-word) p.2, p.3)
 
 pub returns-then-i-ge-MOST_RECORDS : goal.returns-then-i-ge-MOST_RECORDS
 returns-then-i-ge-MOST_RECORDS c =
     let s = c.before in
     enters-late s.args.n s.args.low.now s.args.high.now s.args.left.now s.args.right.now _ s.requires.3 s.requires.1 s.requires.2 _ c.if-i-ge-MOST_RECORDS.true
-    (rw (own (goal.at.returns-then-i-ge-MOST_RECORDS c).After-slice_known-1) at c.in_list.ensures)
+    (rw (own (goal.at.returns-then-i-ge-MOST_RECORDS c).After-key_at-word) at c.in_list.ensures)
 
 pub key_bits-bits-requires : goal.key_bits-bits-requires
 key_bits-bits-requires c = c.requires.0
@@ -53,7 +53,7 @@ find-requires c =
 seeks : (c : After-find)
     → let s = c.before in
     c.find.result ≡ search_of (store_in s.args.low.now s.args.high.now s.args.left.now s.args.right.now s.args.i) (get_or (listed_keys s.args.low.now s.args.high.now) s.args.i 0) (bits_per_row * s.args.n)
-seeks c = rw (c.key_bits-bits.ensures, own UP-c-After-slice_known-1) at c.find.ensures
+seeks c = rw (c.key_bits-bits.ensures, own (goal.at-After-find c).After-slice_known-1) at c.find.ensures
 
 pub hang-requires : goal.hang-requires
 hang-requires c =

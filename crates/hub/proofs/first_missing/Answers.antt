@@ -25,8 +25,8 @@ there c = omega (arith, c.loop-i-test.true, c.list_length-count.ensures)
 pub key_at-key-requires : goal.key_at-key-requires
 key_at-key-requires c = keys-both _ _ _ (there c)
 
-own : (c : After-key_at-key) → number_of c.key_at-key.result ≡ get_or (listing UP-c-In-loop-i) c.loop-i.i 0
-own c = c.key_at-key.ensures ∙ sym (keys-at _ _ _ (there UP-c-In-loop-i))
+own : (c : After-key_at-key) → number_of c.key_at-key.result ≡ get_or (listing (goal.at-After-key_at-key c).In-loop-i) c.loop-i.i 0
+own c = c.key_at-key.ensures ∙ sym (keys-at _ _ _ (there (goal.at-After-key_at-key c).In-loop-i))
 
 pub first_out-out-requires : goal.first_out-out-requires
 first_out-out-requires c =

@@ -28,8 +28,8 @@ there c = omega (arith, c.loop-i-test.true, c.list_length-count.ensures)
 pub key_at-word-requires : goal.key_at-word-requires
 key_at-word-requires c = keys-both _ _ _ (there c)
 
-own : (c : After-key_at-word) → number_of c.key_at-word.result ≡ get_or (listing UP-c-In-loop-i) c.loop-i.i 0
-own c = c.key_at-word.ensures ∙ sym (keys-at _ _ _ (there UP-c-In-loop-i))
+own : (c : After-key_at-word) → number_of c.key_at-word.result ≡ get_or (listing (goal.at-After-key_at-word c).In-loop-i) c.loop-i.i 0
+own c = c.key_at-word.ensures ∙ sym (keys-at _ _ _ (there (goal.at-After-key_at-word c).In-loop-i))
 
 pub is_maximal-requires : goal.is_maximal-requires
 is_maximal-requires c = let p = c.requires in (p.0, p.1)
@@ -66,7 +66,7 @@ tells : (c : After-enter)
 tells c =
     let s = c in
     let k = c in
-    let y = rw (own k) at (sym c.is_maximal.ensures ∙ not-false _ c.if-not-is_maximal.false-raw) in
+    let y = rw (own (goal.at-After-enter k).After-key_at-word) at (sym c.is_maximal.ensures ∙ not-false _ c.if-not-is_maximal.false-raw) in
     spoilt-new s.args.cat s.args.cells.now _ s.requires.0 (listed_keys s.args.low.now s.args.high.now) c.loop-i.i y ∙ sym c.enter.ensures.repeats
 
 pub returns-then-enter : goal.returns-then-enter

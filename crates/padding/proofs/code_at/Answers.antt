@@ -27,7 +27,7 @@ returns-then-table_gives c =
     let l = r in
     let s = l in
     let y = sym r.table_gives.ensures ∙ r.if-table_gives.true in
-    rw (c.code_of_lem.ensures, r.row_of-r.ensures)
+    rw (c.code_of.ensures, r.row_of-r.ensures)
     (sym (code-first s.args.cat (number_of s.args.key) s.args.cells.now s.args.a l.loop-t.t (omega arith) y l.loop-t.invariant.1))
 
 pub loop-t-preserved : goal.loop-t-preserved

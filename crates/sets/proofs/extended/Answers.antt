@@ -71,13 +71,13 @@ looked f =
     let l = a in
     let s = l in
     let v = l.rounds.invariant in
-    open-first s.args.cat s.args.cells.now _ _ l.loop-live.invariant.0 _ s.requires.0 _ _ (both a).0 (both a).1 v.2 _ _ v.0.merged _ _
-    (s.requires.0.places _ (turn a)) f.first_fit-i.ensures
+    open-first s.args.cat s.args.cells.now _ _ l.loop-live.invariant.0 _ s.requires.0 _ _ (both (goal.at-After-first_fit-i a).After-lowest-t).0 (both (goal.at-After-first_fit-i a).After-lowest-t).1 v.2 _ _ v.0.merged _ _
+    (s.requires.0.places _ (turn (goal.at-After-first_fit-i a).After-lowest-t)) f.first_fit-i.ensures
 
 -- a row that was found is there
 there : (t : Then-i-count)
     → There t.args.cat t.lowest-t.result (t.first_fit-i.result + 1)
-there t = record { table = turn UP-t-After-lowest-t; low = omega arith; high = omega (arith, t.if-i-count.true) }
+there t = record { table = turn (goal.at-Then-i-count t).After-lowest-t; low = omega arith; high = omega (arith, t.if-i-count.true) }
 
 pub merge_set-touch-requires : goal.merge_set-touch-requires
 merge_set-touch-requires c = let s = c in (s.requires.0, s.requires.1, s.requires.2, s.requires.3, refl)
@@ -211,15 +211,15 @@ merge_add-attrs-requires c =
     )
 
 pub offset_bounds-cat-t-in-rounds-3 : goal.offset_bounds-cat-t-in-rounds-3
-offset_bounds-cat-t-in-rounds-3 c = omega (arith, eight ((goal.at.offset_bounds-cat-t-in-rounds-3 c).After-lowest-t.before))
+offset_bounds-cat-t-in-rounds-3 c = omega (arith, eight (goal.at.offset_bounds-cat-t-in-rounds-3 c).After-lowest-t)
 
 pub bounds-cat-t-in-rounds-3 : goal.bounds-cat-t-in-rounds-3
-bounds-cat-t-in-rounds-3 c = omega (arith, eight ((goal.at.bounds-cat-t-in-rounds-3 c).After-lowest-t.before))
+bounds-cat-t-in-rounds-3 c = omega (arith, eight (goal.at.bounds-cat-t-in-rounds-3 c).After-lowest-t)
 
 pub overflow_cast-reach : goal.overflow_cast-reach
 overflow_cast-reach c =
-    let a = (goal.at.overflow_cast-reach c).After-lowest-t.before in
-    omega (arith, mask-small (start (walk a)).args.cat _ (start (walk a)).requires.0 _ (turn a))
+    let a = (goal.at.overflow_cast-reach c).After-lowest-t in
+    omega (arith, mask-small a.args.cat _ a.requires.0 _ (turn a))
 
 pub with_row-key-requires : goal.with_row-key-requires
 with_row-key-requires c =
@@ -227,10 +227,10 @@ with_row-key-requires c =
     (eight (goal.at.with_row-key-requires t).After-lowest-t, row_small _ _ t.requires.0 _ _ (there (goal.at.with_row-key-requires t).Then-i-count))
 
 pub offset_bounds-layout-t : goal.offset_bounds-layout-t
-offset_bounds-layout-t c = omega (arith, eight ((goal.at.offset_bounds-layout-t c).After-lowest-t.before))
+offset_bounds-layout-t c = omega (arith, eight (goal.at.offset_bounds-layout-t c).After-lowest-t)
 
 pub bounds-layout-t-in-rounds-2 : goal.bounds-layout-t-in-rounds-2
-bounds-layout-t-in-rounds-2 c = omega (arith, eight ((goal.at.bounds-layout-t-in-rounds-2 c).After-lowest-t.before))
+bounds-layout-t-in-rounds-2 c = omega (arith, eight (goal.at.bounds-layout-t-in-rounds-2 c).After-lowest-t)
 
 -- what is added to the tests
 abbrev Sums : After-tests-1 → Type 0
@@ -243,7 +243,7 @@ sums : (c : After-tests-1) → Sums c
 sums c =
     let t = c in
     let a = t in
-    (few UP-a-At-loop-live, (small a).before, omega (arith, t.if-i-count.true, a.requires.0.rows _ (turn a)))
+    (few (goal.at-After-tests-1 a).At-loop-live, (small (goal.at-After-tests-1 a).After-lowest-t).before, omega (arith, t.if-i-count.true, a.requires.0.rows _ (turn (goal.at-After-tests-1 a).After-lowest-t)))
 
 pub overflow_cast-tests : goal.overflow_cast-tests
 overflow_cast-tests c = omega (arith, sums c)
@@ -255,7 +255,7 @@ pub overflow_add-tests-in-rounds : goal.overflow_add-tests-in-rounds
 overflow_add-tests-in-rounds c = omega (arith, sums (goal.at.overflow_add-tests-in-rounds c).After-tests-1)
 
 pub rounds-smaller : goal.rounds-smaller
-rounds-smaller c = let a = (goal.at.rounds-smaller c).After-lowest-t.before in omega (arith, fewer a, (walk a).loop-live.invariant.1)
+rounds-smaller c = let a = (goal.at.rounds-smaller c).After-lowest-t in omega (arith, fewer a, a.loop-live.invariant.1)
 
 pub rounds-preserved : goal.rounds-preserved
 rounds-preserved c =

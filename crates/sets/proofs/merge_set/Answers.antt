@@ -18,7 +18,7 @@ use Rattle.sets.proofs.MergedLaws.{merged-none, merged-same, merged-add, gathere
 use Rattle.sets.proofs.LackingLaws.{tables-has, tables-lt, lacking-none, lacking-all, lacking-more}
 use Rattle.sets.proofs.RowTestLaws.{start_of}
 use Rattle.sets.proofs.LayoutLaws.{Small, laid-small}
-use Rattle.sets.proofs.merge_set.Goals.{After-lowest-u, After-row_of-r, After-w-1}
+use Rattle.sets.proofs.merge_set.Goals.{After-lowest-u, After-row_of-r}
 use Rattle.sets.proofs.merge_set.Goals as goal
 
 -- the table of the next row is one of the set's
@@ -61,26 +61,26 @@ pub overflow_cast-base : goal.overflow_cast-base
 overflow_cast-base c = omega (arith, (small (goal.at.overflow_cast-base c).After-lowest-u).place)
 
 pub row_of-r-requires : goal.row_of-r-requires
-row_of-r-requires c = eight (goal.at.row_of-r-requires c).After-w-1
+row_of-r-requires c = eight (goal.at.row_of-r-requires c).After-lowest-u
 
 pub offset_bounds-cat-u-in-loop-rest : goal.offset_bounds-cat-u-in-loop-rest
-offset_bounds-cat-u-in-loop-rest c = omega (arith, eight (goal.at.offset_bounds-cat-u-in-loop-rest c).After-w-1)
+offset_bounds-cat-u-in-loop-rest c = omega (arith, eight (goal.at.offset_bounds-cat-u-in-loop-rest c).After-lowest-u)
 
 pub bounds-cat-u-in-loop-rest : goal.bounds-cat-u-in-loop-rest
-bounds-cat-u-in-loop-rest c = omega (arith, eight (goal.at.bounds-cat-u-in-loop-rest c).After-w-1)
+bounds-cat-u-in-loop-rest c = omega (arith, eight (goal.at.bounds-cat-u-in-loop-rest c).After-lowest-u)
 
 own : (q : After-row_of-r) → at (set_of q.args.cat (number_of q.args.held.key)) q.lowest-u.result ≡ q.row_of-r.result
 own q =
     let s = q in
-    in-at bits_per_row s.args.cat.n (number_of s.args.held.key) _ (turn UP-q-After-lowest-u) ∙ sym q.row_of-r.ensures
+    in-at bits_per_row s.args.cat.n (number_of s.args.held.key) _ (turn (goal.at-After-row_of-r q).After-lowest-u) ∙ sym q.row_of-r.ensures
 
 there : (q : After-row_of-r) → There q.args.cat q.lowest-u.result q.row_of-r.result
 there q =
     let s = q in
     record {
-      table = turn UP-q-After-lowest-u;
-      low = omega (arith, own q, listed UP-q-After-lowest-u);
-      high = omega (arith, q.row_of-r.ensures, s.requires.2.rows _ (turn UP-q-After-lowest-u));
+      table = turn (goal.at-After-row_of-r q).After-lowest-u;
+      low = omega (arith, own q, listed (goal.at-After-row_of-r q).After-lowest-u);
+      high = omega (arith, q.row_of-r.ensures, s.requires.2.rows _ (turn (goal.at-After-row_of-r q).After-lowest-u));
     }
 
 pub merge_add-attrs-requires : goal.merge_add-attrs-requires

@@ -25,7 +25,7 @@ use Rattle.sets.proofs.MergedLaws.{shared-under}
 use Rattle.sets.proofs.RowTestLaws.{start_of}
 use Rattle.sets.proofs.LayoutLaws.{Small, laid-small}
 use Rattle.sets.proofs.Dropping.{merged-one, near-member, near-table, parting-start, parting-goes, parting-stays, parting-end}
-use Rattle.sets.proofs.parted.Goals.{After-lowest-u, After-row_of-q, After-scheme-1, Start}
+use Rattle.sets.proofs.parted.Goals.{After-lowest-u, After-row_of-q, Start, then-not-row_fits, else-not-row_fits}
 use Rattle.sets.proofs.parted.Goals as goal
 
 -- the set, and how long it is
@@ -73,7 +73,7 @@ near a = a.loop-rest.invariant.under _ a.lowest-u.ensures.itself
 turn : (a : After-lowest-u) → a.lowest-u.result < a.args.cat.n
 turn a =
     let s = a in
-    near-table s.args.cat s.args.cells.now _ s.requires.0 (set-of s) (long s) (place_of s.args.x) s.requires.4 _ s.requires.3 _ (near a)
+    near-table s.args.cat s.args.cells.now _ s.requires.0 (set-of (goal.at-After-lowest-u s).Start) (long (goal.at-After-lowest-u s).Start) (place_of s.args.x) s.requires.4 _ s.requires.3 _ (near a)
 
 eight : (a : After-lowest-u) → a.lowest-u.result < most_tables
 eight a = omega (arith, turn a, a.requires.0.tables)
@@ -88,20 +88,20 @@ pub bounds-cat-u : goal.bounds-cat-u
 bounds-cat-u c = omega (arith, eight c)
 
 pub row_of-q-requires : goal.row_of-q-requires
-row_of-q-requires c = eight (goal.at.row_of-q-requires c).After-scheme-1
+row_of-q-requires c = eight (goal.at.row_of-q-requires c).After-lowest-u
 
 -- its row, as the code reads it
-own : (q : After-row_of-q) → at (set-of UP-q-Start) q.lowest-u.result ≡ q.row_of-q.result
+own : (q : After-row_of-q) → at (set-of (goal.at-After-row_of-q q).Start) q.lowest-u.result ≡ q.row_of-q.result
 own q =
     let s = q in
-    in-at bits_per_row s.args.cat.n (number_of s.args.held.key) _ (turn UP-q-After-lowest-u) ∙ sym q.row_of-q.ensures
+    in-at bits_per_row s.args.cat.n (number_of s.args.held.key) _ (turn (goal.at-After-row_of-q q).After-lowest-u) ∙ sym q.row_of-q.ensures
 
 there : (q : After-row_of-q) → There q.args.cat q.lowest-u.result q.row_of-q.result
 there q =
     let a = q in
     let s = a in
-    let m = near-member s.args.cat s.args.cells.now _ s.requires.0 (set-of s) (long s) (place_of s.args.x) s.requires.4 _ s.requires.3 _ (near a) in
-    record { table = turn a; low = omega (arith, own q, m); high = omega (arith, q.row_of-q.ensures, s.requires.2.rows _ (turn a)) }
+    let m = near-member s.args.cat s.args.cells.now _ s.requires.0 (set-of (goal.at-After-row_of-q s).Start) (long (goal.at-After-row_of-q s).Start) (place_of s.args.x) s.requires.4 _ s.requires.3 _ (near (goal.at-After-row_of-q a).After-lowest-u) in
+    record { table = turn (goal.at-After-row_of-q a).After-lowest-u; low = omega (arith, own q, m); high = omega (arith, q.row_of-q.ensures, s.requires.2.rows _ (turn (goal.at-After-row_of-q a).After-lowest-u)) }
 
 -- where it begins, and that its cells are there
 begins : (q : After-row_of-q)
@@ -110,7 +110,7 @@ begins : (q : After-row_of-q)
 begins q =
     let a = q in
     let s = a in
-    rw (s.requires.1.wide _ (turn a)) (start_of s.args.cat a.lowest-u.result q.row_of-q.result _ (s.requires.0.places _ (turn a)))
+    rw (s.requires.1.wide _ (turn (goal.at-After-row_of-q a).After-lowest-u)) (start_of s.args.cat a.lowest-u.result q.row_of-q.result _ (s.requires.0.places _ (turn (goal.at-After-row_of-q a).After-lowest-u)))
 
 room : (q : After-row_of-q)
     → (place_in q.args.cat q.lowest-u.result + (q.row_of-q.result - 1) * get_or q.args.layout.widths q.lowest-u.result 0)
@@ -170,18 +170,18 @@ loop-rest-preserved c =
     let m = merged-one _ _ _ s.requires.0 _ _ _ _ _ s.requires.4 refl l.merge_add-attrs.ensures in
     let e = begins (goal.at.loop-rest-preserved q).After-row_of-q ∙ ap (row_start s.args.cat a.lowest-u.result) (sym (own (goal.at.loop-rest-preserved q).After-row_of-q)) in
     rw (c.without_lowest-rest.ensures _ a.lowest-u.ensures)
-    (⊎_elim
-    (λ w.
-    rw w.1
-    (parting-goes _ _ _ s.requires.0 (set-of (goal.at.loop-rest-preserved s).Start) (long (goal.at.loop-rest-preserved s).Start) (place_of s.args.x) s.requires.4 _ s.requires.3 _ _ l.loop-rest.invariant _
-    a.lowest-u.ensures.itself _ _ m _ e
-    (ap not (sym f.row_fits.ensures) ∙ w.0.taken) _ (bit (goal.at.loop-rest-preserved a).After-lowest-u)))
-    (λ w.
-    rw w.1
-    (parting-stays _ _ _ s.requires.0 (set-of (goal.at.loop-rest-preserved s).Start) (long (goal.at.loop-rest-preserved s).Start) (place_of s.args.x) s.requires.4 _ s.requires.3 _ _ l.loop-rest.invariant _
-    a.lowest-u.ensures.itself _ _ m _ e
-    (ap not (sym f.row_fits.ensures) ∙ w.0.left)))
-    c.if-not-row_fits.branch)
+    (elim c.if-not-row_fits.branch [
+      | then-not-row_fits w ↦
+          rw w.gone-is
+          (parting-goes _ _ _ s.requires.0 (set-of (goal.at.loop-rest-preserved s).Start) (long (goal.at.loop-rest-preserved s).Start) (place_of s.args.x) s.requires.4 _ s.requires.3 _ _ l.loop-rest.invariant _
+          a.lowest-u.ensures.itself _ _ m _ e
+          (ap not (sym f.row_fits.ensures) ∙ w.if-not-row_fits.true-raw) _ (bit (goal.at.loop-rest-preserved a).After-lowest-u))
+      | else-not-row_fits w ↦
+          rw w.gone-is
+          (parting-stays _ _ _ s.requires.0 (set-of (goal.at.loop-rest-preserved s).Start) (long (goal.at.loop-rest-preserved s).Start) (place_of s.args.x) s.requires.4 _ s.requires.3 _ _ l.loop-rest.invariant _
+          a.lowest-u.ensures.itself _ _ m _ e
+          (ap not (sym f.row_fits.ensures) ∙ w.if-not-row_fits.false-raw))
+    ])
 
 pub returns : goal.returns
 returns c =

@@ -64,7 +64,7 @@ turn : (a : After-lowest-u) → a.lowest-u.result < a.args.cat.n
 turn a =
     let l = a in
     let s = l in
-    member-table (world_of s.args.cat []) (set_of s.args.cat (number_of s.args.all.key)) (long s) _ (l.loop-left.invariant.within _ (left a))
+    member-table (world_of s.args.cat []) (set_of s.args.cat (number_of s.args.all.key)) (long (goal.at-After-lowest-u s).Start) _ (l.loop-left.invariant.within _ (left a))
 
 bit-2 : (a : After-lowest-u) → 1 * 2 ^ a.lowest-u.result % 2 ^ 64 ≡ 2 ^ a.lowest-u.result
 bit-2 a = one_shl _ (omega (arith, turn a, a.requires.0.tables))

@@ -7,6 +7,7 @@ use Rattle.tables.specs.Catalogues.{scheme_of}
 use Rattle.tables.proofs.CatalogueLaws.{one_shl, table-ends, some-cell}
 use Rattle.walks.specs.Merged.{merged_length}
 use Rattle.sets.proofs.LayoutLaws.{scheme-narrow, rising_none, rising-more}
+use Rattle.sets.proofs.rising_tables.Goals.{then-rises, else-rises}
 use Rattle.sets.proofs.rising_tables.Goals as goal
 
 pub loop-t-init : goal.loop-t-init
@@ -30,13 +31,13 @@ loop-t-preserved c =
     let l = o in
     let s = l in
     let b = o.loop-t-test.true in
-    ⊎_elim
-    (λ x.
-    rw x.1
-    (rising-more s.args.cat s.args.cells.now l.loop-t.t _ _ l.loop-t.invariant (one_shl l.loop-t.t (omega (arith, b, s.requires.0.tables)))
-    (rw (s.requires.1.wide _ b, s.requires.0.places _ b) at (r.rises.ensures x.0.taken))))
-    (λ x. rw x.1 l.loop-t.invariant)
-    c.if-rises.branch
+    elim c.if-rises.branch [
+      | then-rises x ↦
+          rw x.rising-is
+          (rising-more s.args.cat s.args.cells.now l.loop-t.t _ _ l.loop-t.invariant (one_shl l.loop-t.t (omega (arith, b, s.requires.0.tables)))
+          (rw (s.requires.1.wide _ b, s.requires.0.places _ b) at (r.rises.ensures x.if-rises.true)))
+      | else-rises x ↦ rw x.rising-is l.loop-t.invariant
+    ]
 
 pub returns : goal.returns
 returns c = c.loop-t.invariant

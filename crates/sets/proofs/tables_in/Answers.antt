@@ -8,6 +8,7 @@ use Rattle.keys.specs.TwoWords.{number_of}
 use Rattle.keys.proofs.SetLaws.{in-at, in-past}
 use Rattle.tables.proofs.CatalogueLaws.{one_shl}
 use Rattle.sets.proofs.LackingLaws.{marked-none, marked_row, marked-skip, marked-end}
+use Rattle.sets.proofs.tables_in.Goals.{then-row_of-ne0, else-row_of-ne0}
 use Rattle.sets.proofs.tables_in.Goals as goal
 
 pub loop-u-init : goal.loop-u-init
@@ -20,12 +21,12 @@ loop-u-preserved c =
     let b = c.loop-u-test.true in
     let own = in-at bits_per_row s.args.cat.n (number_of s.args.key) l.loop-u.u b ∙ sym c.row_of.ensures in (
       omega (arith, b),
-      ⊎_elim
-          (λ w.
-          rw w.1
-          (marked_row _ _ l.loop-u.u l.loop-u.invariant.1 (omega (arith, own, w.0.taken)) _ (one_shl l.loop-u.u (omega (arith, b, s.requires.tables)))))
-          (λ w. rw w.1 (marked-skip _ _ l.loop-u.u l.loop-u.invariant.1 (own ∙ w.0.left)))
-          c.if-row_of-ne0.branch,
+      elim c.if-row_of-ne0.branch [
+        | then-row_of-ne0 w ↦
+            rw w.tables-is
+            (marked_row _ _ l.loop-u.u l.loop-u.invariant.1 (omega (arith, own, w.if-row_of-ne0.true)) _ (one_shl l.loop-u.u (omega (arith, b, s.requires.tables))))
+        | else-row_of-ne0 w ↦ rw w.tables-is (marked-skip _ _ l.loop-u.u l.loop-u.invariant.1 (own ∙ w.if-row_of-ne0.false))
+      ],
     )
 
 pub returns : goal.returns

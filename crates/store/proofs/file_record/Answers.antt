@@ -11,7 +11,7 @@ returns c =
     let s = c in
     record {
       low = ap (λ (x : ℕ). set s.args.low.now s.args.at x) c.low_word.ensures;
-      high = ap (λ (x : ℕ). set s.args.high.now s.args.at x) c.high_word_lem.ensures;
+      high = ap (λ (x : ℕ). set s.args.high.now s.args.at x) c.high_word.ensures;
       left = refl;
       right = refl;
     }

@@ -5,24 +5,13 @@ use Rattle.keys.specs.TwoWords.{number_of}
 use Rattle.store.specs.Store.{Store, store_in, search_of, answer_of, store_after}
 use Rattle.store.specs.declared.Looked.TheVariants.{Absent}
 use Rattle.store.proofs.StoreLaws.{absent-place}
-use Rattle.store.proofs.offer.Goals.{After-slice_known-4-1, In-Absent, Start}
 use Rattle.store.proofs.offer.Goals as goal
-
-abbrev store : Start → Store
-store z = store_in z.args.low.now z.args.high.now z.args.left.now z.args.right.now z.args.found
-
-absent : (k : In-Absent)
-    → Absent k.looked-in-Absent-1.given.0.0 k.looked-in-Absent-1.given.0.1.0 k.looked-in-Absent-1.given.0.1.1.0
-    ≡ search_of (store UP-k-Start) (number_of k.args.sought) k.args.deepest
-absent k = sym k.looked-in-Absent-1.given.1 ∙ k.find-looked.ensures
 
 pub add-requires : goal.add-requires
 add-requires c =
-    let t = c in
-    let k = t in
-    let z = k in
-    let h = rw t.room.ensures at t.if-found-room.true in
-    (h, absent-place (store (goal.at.add-requires z).Start) (number_of z.args.sought) z.args.deepest z.requires.0 (absent (goal.at.add-requires k).After-slice_known-4-1))
+    let g = c.args in
+    let h = rw c.room.ensures at c.if-found-room.true in
+    (h, absent-place (store_in g.low.now g.high.now g.left.now g.right.now g.found) (number_of g.sought) g.deepest c.requires.0 (sym c.in-Absent.is ∙ c.find-looked.ensures))
 
 pub returns-in-Found : goal.returns-in-Found
 unfolding answer_of store_after
@@ -39,15 +28,13 @@ returns-in-Damaged c =
 pub returns-then-found-room : goal.returns-then-found-room
 unfolding answer_of store_after
 returns-then-found-room c =
-    let i = c in
-    let t = i in
-    let e = absent (goal.at.returns-then-found-room t).After-slice_known-4-1 in
-    let h = rw t.room.ensures at t.if-found-room.true in
-    record { answer = rw (← e, lt-ltb _ _ h); after = rw (← e, lt-ltb _ _ h) i.add.ensures }
+    let e = sym c.in-Absent.is ∙ c.find-looked.ensures in
+    let h = rw c.room.ensures at c.if-found-room.true in
+    record { answer = rw (← e, lt-ltb _ _ h); after = rw (← e, lt-ltb _ _ h) c.add.ensures }
 
 pub returns-else-found-room : goal.returns-else-found-room
 unfolding answer_of store_after
 returns-else-found-room c =
-    let e = absent (goal.at.returns-else-found-room c).After-slice_known-4-1 in
+    let e = sym c.in-Absent.is ∙ c.find-looked.ensures in
     let h = rw c.room.ensures at c.if-found-room.false in
     record { answer = rw (← e, le-ltb _ _ h); after = rw (← e, le-ltb _ _ h) (record { low = refl; high = refl; left = refl; right = refl }) }

@@ -7,8 +7,8 @@ use Rattle.verdicts.proofs.number_of.Goals.{In-Refused}
 use Rattle.verdicts.proofs.number_of.Goals as goal
 
 -- The refusal is near the start.
-near : (c : In-Refused) → NearVerdict farthest (Refused c.verdict-1.given.0.0)
-near c = rw c.verdict-1.given.1 at c.requires
+near : (c : In-Refused) → NearVerdict farthest (Refused c.in-Refused.f)
+near c = rw c.in-Refused.is at c.requires
 
 pub overflow_mul-result : goal.overflow_mul-result
 overflow_mul-result c =

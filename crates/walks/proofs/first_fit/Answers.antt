@@ -54,7 +54,7 @@ first-here : (r : After-rises_at) → r.rises_at.result ≡ true
 first-here r h = omega (arith, (r.rises_at.ensures h).1)
 
 narrow : (r : After-rises_at) → r.args.w ≤ merged_length
-narrow r = let s = r in omega (arith, s.requires.0, ones-le merged_length _ s.fits.scheme.fits)
+narrow r = let s = r in omega (arith, s.requires.0, ones-le merged_length _ s.ranges.scheme.fits)
 
 pub returns-then-not-valued : goal.returns-then-not-valued
 returns-then-not-valued c =
@@ -116,7 +116,7 @@ walked : (c : After-rank) → Column c
 walked c =
     let r = c in
     let s = r in
-    column _ s.args.scheme s.args.base s.args.count _ _ s.args.w s.requires.0 s.requires.1 (s.requires.2 _ (low r).itself) (ap (λ (x : ℕ). s.args.base + x) c.rank.ensures)
+    column _ s.args.scheme s.args.base s.args.count _ _ s.args.w s.requires.0 s.requires.1 (s.requires.2 _ c.lowest-a.ensures.itself) (ap (λ (x : ℕ). s.args.base + x) c.rank.ensures)
 
 pub overflow_add-first : goal.overflow_add-first
 overflow_add-first c = omega (arith, walked c, narrow (goal.at.overflow_add-first c).After-rises_at)

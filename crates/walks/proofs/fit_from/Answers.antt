@@ -41,7 +41,8 @@ inside c =
     room s.args.base s.args.w (ones s.args.scheme) _ _ _ s.requires.0 c.loop-i-test.true s.requires.1
 
 -- and what the comparison says of it is whether it fits
-answer : (c : After-fits_placed) → fits UP-c-Start c.loop-i.i ≡ c.fits_placed.result
+answer : (c : After-fits_placed)
+    → fits_at c.args.cells.now c.args.first c.args.w c.args.wanted c.args.scheme c.args.base c.args.mask c.args.merged.now c.loop-i.i ≡ c.fits_placed.result
 answer c =
     let o = c in
     let s = o in
@@ -75,7 +76,7 @@ next_row-i-requires c =
     let o = i in
     let s = o in (
       omega (arith, i.loop-i-test.true),
-      omega (arith, s.requires.0, ones-le merged_length _ s.fits.scheme.fits),
+      omega (arith, s.requires.0, ones-le merged_length _ s.ranges.scheme.fits),
       s.requires.2,
       λ h. (s.requires.5 h, λ b. omega (arith, (s.requires.5 h).each o.loop-i.i (o.loop-i.i + 1) (omega arith) b, o.loop-i.invariant.code i.loop-i-test.true)),
     )

@@ -8,7 +8,7 @@ use Rattle.tables.specs.Catalogues.{code_at}
 use Rattle.walks.specs.Merged.{Places}
 use Rattle.walks.proofs.MatchLaws.{bit-fewer, under-less, matches-none, matches-more, matches-bad}
 use Rattle.walks.proofs.PlaceLaws.{placed-code}
-use Rattle.walks.proofs.fits_placed.Goals.{After-lowest-a, After-t12-1}
+use Rattle.walks.proofs.fits_placed.Goals.{After-lowest-a}
 use Rattle.walks.proofs.fits_placed.Goals as goal
 
 -- the attribute's cell is there
@@ -31,21 +31,21 @@ pub loop-rest-init : goal.loop-rest-init
 loop-rest-init c = (λ scheme p. refl, λ a b. b)
 
 pub overflow_cast-places : goal.overflow_cast-places
-overflow_cast-places c = omega (arith, inside (goal.at.overflow_cast-places c).After-t12-1)
+overflow_cast-places c = omega (arith, inside (goal.at.overflow_cast-places c).After-lowest-a)
 
 pub overflow_add-start : goal.overflow_add-start
-overflow_add-start c = omega (arith, inside (goal.at.overflow_add-start c).After-t12-1)
+overflow_add-start c = omega (arith, inside (goal.at.overflow_add-start c).After-lowest-a)
 
 pub offset_bounds-cells-start : goal.offset_bounds-cells-start
-offset_bounds-cells-start c = omega (arith, inside (goal.at.offset_bounds-cells-start c).After-t12-1)
+offset_bounds-cells-start c = omega (arith, inside (goal.at.offset_bounds-cells-start c).After-lowest-a)
 
 pub bounds-cells-start : goal.bounds-cells-start
-bounds-cells-start c = inside (goal.at.bounds-cells-start c).After-t12-1
+bounds-cells-start c = inside (goal.at.bounds-cells-start c).After-lowest-a
 
 pub returns-then-merged-a : goal.returns-then-merged-a
 returns-then-merged-a c scheme p =
     let l = c in
-    sym (l.loop-rest.invariant.0 scheme p ∙ matches-bad _ _ _ _ _ _ l.lowest-a.ensures (λ s. c.if-merged-a.true (s.1 ∙ sym (own (goal.at.returns-then-merged-a l).After-t12-1 scheme p))))
+    sym (l.loop-rest.invariant.0 scheme p ∙ matches-bad _ _ _ _ _ _ l.lowest-a.ensures (λ s. c.if-merged-a.true (s.1 ∙ sym (own (goal.at.returns-then-merged-a l).After-lowest-a scheme p))))
 
 pub loop-rest-smaller : goal.loop-rest-smaller
 loop-rest-smaller c =
@@ -59,7 +59,7 @@ loop-rest-preserved c =
     rw (c.without_lowest-rest.ensures _ l.lowest-a.ensures) (
       λ scheme p.
           v.0 scheme p ∙ matches-more _ _ _ _ _ _ l.lowest-a.ensures
-          (l.requires.1 _ (v.1 _ l.lowest-a.ensures.itself), c.if-merged-a.false ∙ own (goal.at.loop-rest-preserved l).After-t12-1 scheme p),
+          (l.requires.1 _ (v.1 _ l.lowest-a.ensures.itself), c.if-merged-a.false ∙ own (goal.at.loop-rest-preserved l).After-lowest-a scheme p),
       under-less _ _ l.lowest-a.ensures _ v.1,
     )
 

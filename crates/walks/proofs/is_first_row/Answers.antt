@@ -7,19 +7,15 @@ use lib.ListN.{length}
 use Rattle.laws.proofs.TestLaws.{clash}
 use Rattle.walks.proofs.FirstLaws.{cell-inside}
 use Rattle.walks.proofs.RisingLaws.{next-least}
-use Rattle.walks.proofs.is_first_row.Goals.{Else-count-near, Start}
+use Rattle.walks.proofs.is_first_row.Goals.{Else-count-near}
 use Rattle.walks.proofs.is_first_row.Goals as goal
 
--- row j's cell is there
-abbrev Inside : Start → ℕ → Type 0
-Inside s j = s.args.first + j * s.args.w < length s.args.cells.now
+-- where `near` is a row, its cell is there, and so is that of the row before it
+here : (c : Else-count-near) → c.args.first + c.args.near * c.args.w < length c.args.cells.now
+here c = cell-inside c.args.first c.args.w _ c.args.count _ (omega (arith, c.if-count-near.false)) c.requires.1
 
--- where `near` is a row, so are it and the one before it
-here : (c : Else-count-near) → Inside UP-c-Start c.args.near
-here c = let s = c in cell-inside s.args.first s.args.w _ s.args.count _ (omega (arith, c.if-count-near.false)) s.requires.1
-
-last : (c : Else-count-near) → Inside UP-c-Start (c.args.near - 1)
-last c = let s = c in cell-inside s.args.first s.args.w _ s.args.count _ (omega (arith, c.if-count-near.false)) s.requires.1
+last : (c : Else-count-near) → c.args.first + (c.args.near - 1) * c.args.w < length c.args.cells.now
+last c = cell-inside c.args.first c.args.w _ c.args.count _ (omega (arith, c.if-count-near.false)) c.requires.1
 
 pub returns-then-count-near : goal.returns-then-count-near
 returns-then-count-near c h = absurd (clash h refl)

@@ -8,7 +8,7 @@ use lib.Count.{ones}
 use Rattle.rows.proofs.WorldLaws.{code_inside}
 use Rattle.walks.proofs.MatchLaws.{bit-fewer, merge-start, merge-next, merge-end}
 use Rattle.walks.proofs.CursorLaws.{cursor-start, cursor-here, cursor-next}
-use Rattle.walks.proofs.merge_row.Goals.{After-lowest-a, After-shared_slice_known-in-loop-rest-1}
+use Rattle.walks.proofs.merge_row.Goals.{After-lowest-a}
 use Rattle.walks.proofs.merge_row.Goals as goal
 
 pub loop-rest-init : goal.loop-rest-init
@@ -32,7 +32,7 @@ pub bounds-cells-place : goal.bounds-cells-place
 bounds-cells-place c = inside (goal.at.bounds-cells-place c).After-lowest-a
 
 pub overflow_add-place : goal.overflow_add-place
-overflow_add-place c = omega (arith, inside (goal.at.overflow_add-place c).After-shared_slice_known-in-loop-rest-1)
+overflow_add-place c = omega (arith, inside (goal.at.overflow_add-place c).After-lowest-a)
 
 pub loop-rest-smaller : goal.loop-rest-smaller
 loop-rest-smaller c =
@@ -44,7 +44,7 @@ loop-rest-preserved c =
     let l = c in
     let v = l.loop-rest.invariant in
     rw (c.without_lowest-rest.ensures _ l.lowest-a.ensures) (
-      merge-next _ _ _ _ _ _ _ _ _ v.0 l.lowest-a.ensures (rw (← c.bit_of-seen.ensures, ← here (goal.at.loop-rest-preserved l).After-shared_slice_known-in-loop-rest-1) c.join_code.ensures),
+      merge-next _ _ _ _ _ _ _ _ _ v.0 l.lowest-a.ensures (rw (← c.bit_of-seen.ensures, ← here (goal.at.loop-rest-preserved l).After-lowest-a) c.join_code.ensures),
       cursor-next _ _ _ _ _ _ v.1 l.lowest-a.ensures,
     )
 

@@ -23,7 +23,7 @@ pub catalogue_in-cat-requires : goal.catalogue_in-cat-requires
 catalogue_in-cat-requires c = (next-enough record_words _ _ _ (enough c)).0
 
 pub record_in-before-requires : goal.record_in-before-requires
-record_in-before-requires c = (next-enough record_words _ _ _ (enough (goal.at.record_in-before-requires c).After-next_short)).1
+record_in-before-requires c = (next-enough record_words _ _ _ (enough (goal.at.record_in-before-requires c).Else-next_short)).1
 
 pub put_record-requires : goal.put_record-requires
 put_record-requires c = (next-enough record_words _ _ _ (enough (goal.at.put_record-requires c).Else-next_short)).1

@@ -22,7 +22,7 @@ pub catalogue_in-cat-requires : goal.catalogue_in-cat-requires
 catalogue_in-cat-requires c = (next-enough holding_words _ _ _ (enough c)).0
 
 pub holding_in-before-requires : goal.holding_in-before-requires
-holding_in-before-requires c = (next-enough holding_words _ _ _ (enough (goal.at.holding_in-before-requires c).After-next_short)).1
+holding_in-before-requires c = (next-enough holding_words _ _ _ (enough (goal.at.holding_in-before-requires c).Else-next_short)).1
 
 pub put_holding-requires : goal.put_holding-requires
 put_holding-requires c = (next-enough holding_words _ _ _ (enough (goal.at.put_holding-requires c).Else-next_short)).1

@@ -17,19 +17,19 @@ loop-left-init c = (refl, omega arith, refl, refl)
 got : (c : In-Number) →
     let l = c.loop-left in
     let a = c.args in
-    codes l.left a.s.now l.i ≡ c.x-1.given.0.0 ∷ codes (l.left - 1) a.s.now c.x-1.given.0.1.0
+    codes l.left a.s.now l.i ≡ c.in-Number.x ∷ codes (l.left - 1) a.s.now c.in-Number.e
 got c =
     let l = c.loop-left in
-    codes-more l.left c.args.s.now l.i _ _ (omega arith) (sym c.read.ensures ∙ c.x-1.given.1)
+    codes-more l.left c.args.s.now l.i _ _ (omega arith) (sym c.read.ensures ∙ c.in-Number.is)
 
 pub offset_bounds-out-n : goal.offset_bounds-out-n
-offset_bounds-out-n c = let e = ap length (got c) in omega (arith, c.well-formed)
+offset_bounds-out-n c = let e = ap length (got c) in omega arith
 
 pub bounds-out-n : goal.bounds-out-n
 bounds-out-n c = let e = ap length (got c) in omega (arith, c.requires)
 
 pub overflow_add-n : goal.overflow_add-n
-overflow_add-n c = let e = ap length (got c) in omega (arith, c.well-formed, c.requires)
+overflow_add-n c = let e = ap length (got c) in omega arith
 
 pub loop-left-preserved : goal.loop-left-preserved
 loop-left-preserved c =

@@ -17,10 +17,10 @@ use Rattle.loader.proofs.filler.fill.Goals as goal
 known : (c : After-width)
     → let l = c.loop-left in
     Turn c.args.s.now (length c.args.cells.now) l.left l.used l.i
-    c.rows-1.given.0.0 c.rows-1.given.0.1.0 c.width.result
+    c.in-Number-read.rows c.in-Number-read.b c.width.result
 known c =
     let l = c.loop-left in
-    turn _ _ l.left l.used l.i (omega arith) l.invariant.0 _ _ _ _ _ (sym c.read.ensures ∙ c.scheme-1.given.1) (sym c.read-in-loop-left.ensures ∙ c.rows-1.given.1) c.width.ensures
+    turn _ _ l.left l.used l.i (omega arith) l.invariant.0 _ _ _ _ _ (sym c.read.ensures ∙ c.in-Number.is) (sym c.read-in-loop-left.ensures ∙ c.in-Number-read.is) c.width.ensures
 
 pub loop-left-init : goal.loop-left-init
 loop-left-init c = (c.requires, omega arith, refl, refl)
@@ -67,7 +67,7 @@ loop-left-preserved c =
     let r = sym w.ensures.end ∙ c.in-To.is in
     let q = h.rows in
     let e : c.in-To.e ≡ h.e = cc in
-    let o = lent l.used l.cells bs w.new.1.1.1.0 (omega arith) w.ensures.cells in (
+    let o = lent l.used l.cells bs w.new.out (omega arith) w.ensures.cells in (
       rw e h.rest,
       h.room-left,
       ap length o ∙ length_over l.used bs l.cells (omega arith) ∙ l.invariant.2,

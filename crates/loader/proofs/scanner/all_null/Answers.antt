@@ -14,11 +14,11 @@ use Rattle.loader.proofs.scanner.all_null.Goals as goal
 front : (c : In-Number) →
     let l = c.loop-left in
     let a = c.args in
-    all_null (codes a.width a.s.now a.at) ≡ all_null (c.x-1.given.0.0 ∷ codes (l.left - 1) a.s.now c.x-1.given.0.1.0)
+    all_null (codes a.width a.s.now a.at) ≡ all_null (c.in-Number.x ∷ codes (l.left - 1) a.s.now c.in-Number.n)
 front c =
     let l = c.loop-left in
     let s = c.args.s.now in
-    l.invariant ∙ rw (codes-more l.left s l.i _ _ (omega arith) (sym c.read.ensures ∙ c.x-1.given.1))
+    l.invariant ∙ rw (codes-more l.left s l.i _ _ (omega arith) (sym c.read.ensures ∙ c.in-Number.is))
 
 pub loop-left-init : goal.loop-left-init
 loop-left-init c = refl

@@ -15,14 +15,14 @@ use Rattle.loader.proofs.scanner.count_at.Goals as goal
 -- What the count meets.
 met : (c : After-count_fault-f)
     → let a = c.args in
-    c.count_fault-f.result ≡ count_fault (most_rows_in a.v) a.room a.used a.scheme c.rows-1.given.0.0
+    c.count_fault-f.result ≡ count_fault (most_rows_in a.v) a.room a.used a.scheme c.in-Number.rows
 met c = c.count_fault-f.ensures ∙ rw c.most_rows_in-most.ensures
 
 -- Where the count is good.
 counted : (c : After-width)
     → let a = c.args in
-    Counted (most_rows_in a.v) a.room a.used a.scheme c.rows-1.given.0.0
-counted c = fault-counted _ _ _ _ _ (sym (met UP-c-After-count_fault-f) ∙ c.if-f-ne0.false)
+    Counted (most_rows_in a.v) a.room a.used a.scheme c.in-Number.rows
+counted c = fault-counted _ _ _ _ _ (sym (c.count_fault-f.ensures ∙ rw c.most_rows_in-most.ensures) ∙ c.if-f-ne0.false)
 
 pub count_fault-f-requires : goal.count_fault-f-requires
 count_fault-f-requires c = (rw c.most_rows_in-most.ensures (most-in _), c.requires)

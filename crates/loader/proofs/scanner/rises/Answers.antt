@@ -15,14 +15,14 @@ both : (c : In-Number-read) →
     let l = c.loop-left in
     let a = c.args in
     below (codes a.width a.s.now a.p) (codes a.width a.s.now a.q) ≡
-    below (c.x-1.given.0.0 ∷ codes (l.left - 1) a.s.now c.x-1.given.0.1.0)
-    (c.y-1.given.0.0 ∷ codes (l.left - 1) a.s.now c.y-1.given.0.1.0)
+    below (c.in-Number.x ∷ codes (l.left - 1) a.s.now c.in-Number.n)
+    (c.in-Number-read.y ∷ codes (l.left - 1) a.s.now c.in-Number-read.m)
 both c =
     let l = c.loop-left in
     let s = c.args.s.now in
     l.invariant ∙ rw (
-      codes-more l.left s l.i _ _ (omega arith) (sym c.read.ensures ∙ c.x-1.given.1),
-      codes-more l.left s l.j _ _ (omega arith) (sym c.read-in-loop-left.ensures ∙ c.y-1.given.1),
+      codes-more l.left s l.i _ _ (omega arith) (sym c.read.ensures ∙ c.in-Number.is),
+      codes-more l.left s l.j _ _ (omega arith) (sym c.read-in-loop-left.ensures ∙ c.in-Number-read.is),
     )
 
 pub loop-left-init : goal.loop-left-init

@@ -4,11 +4,10 @@ use Rattle.tables.specs.Rows.{below}
 use Rattle.tables.specs.Versions.{blank}
 use Rattle.loader.proofs.ReadingLaws.{rows_none, rows_more, rows-bad, rows-blank, rows-fall}
 use mathlib.Core.Bool.{true, false, ◌||◌}
-use mathlib.Core.Logic.{⊎_elim}
 use Prim.Native.Nat.{◌-◌}
 use mathlib.Core.Path.{◌≡◌, refl, sym, ◌∙◌}
 use native.Mathlib.Omega.{arith}
-use Rattle.loader.proofs.scanner.rows_end.Goals.{Else-blank_at, Joined-first}
+use Rattle.loader.proofs.scanner.rows_end.Goals.{Else-blank_at, Joined-first, then-first, else-first}
 use Rattle.loader.proofs.scanner.rows_end.Goals as goal
 
 -- where the arms of the `||` meet: the flag is the definition's test
@@ -16,7 +15,11 @@ tested : (c : Joined-first) →
     let l = c.loop-left in
     let a = c.args in
     (l.first || below (codes a.width a.s.now l.«before») (codes a.width a.s.now l.i)) ≡ c.if-first.value
-tested c = ⊎_elim (λ w. rw w.0.taken (sym (w.1 ∙ w.0.taken))) (λ w. rw w.0.left (sym (w.2 ∙ w.1.ensures))) c.if-first.branch
+tested c =
+    elim c.if-first.branch [
+      | then-first w ↦ rw w.if-first.true (sym (w.value-is ∙ w.if-first.true))
+      | else-first w ↦ rw w.if-first.false (sym (w.value-is ∙ w.rises.ensures))
+    ]
 
 pub loop-left-init : goal.loop-left-init
 loop-left-init c = refl

@@ -16,8 +16,7 @@ pub loop-left-preserved : goal.loop-left-preserved
 loop-left-preserved c =
     let l = c.loop-left in
     let a = c.args in
-    let x = c.x-1.given in
-    let e = sym c.table_at.ensures ∙ x.1 in
+    let e = sym c.table_at.ensures ∙ c.in-Table.is in
     let g = good-table a.s.now a.v a.room a.m l.used l.i _ _ _ _ e in (
       l.invariant.0 ∙ tables_more a.s.now a.v a.room a.m a.n l.t l.used l.schemes l.rows l.i l.left _ _ _ _ (omega arith) e,
       omega arith,

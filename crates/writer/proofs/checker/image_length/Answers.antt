@@ -20,8 +20,8 @@ here c = let l = c in table-good _ _ l.requires l.loop-t.t c.width.result c.loop
 
 -- and the whole is short.
 short : (c : After-width)
-    → (let s = UP-c-Start.before in length (image_of s.args.t1 s.args.cells.now) ≤ most_bytes * (3 + 2 * most_tables + most_cells))
-short c = image-few _ _ (UP-c-Start.before).requires
+    → length (image_of c.args.cat c.args.cells.now) ≤ most_bytes * (3 + 2 * most_tables + most_cells)
+short c = image-few _ _ c.requires
 
 pub head_size-sum-requires : goal.head_size-sum-requires
 head_size-sum-requires c = let L = (fault-accepted _ _ c.requires).lawful in (L.attributes, L.tables)
@@ -60,12 +60,12 @@ loop-t-preserved c =
     let w = c in
     let l = w.loop-t in (
       omega (arith, w.loop-t-test.true),
-      omega (arith, c.run_size.ensures, c.size-in-loop-t.ensures, c.size.ensures, (here (goal.at.loop-t-preserved w).After-width).size, (here (goal.at.loop-t-preserved w).After-width).three, l.inv.1),
-      l.inv.2,
+      omega (arith, c.run_size.ensures, c.size-in-loop-t.ensures, c.size.ensures, (here (goal.at.loop-t-preserved w).After-width).size, (here (goal.at.loop-t-preserved w).After-width).three, l.invariant.1),
+      l.invariant.2,
     )
 
 pub returns : goal.returns
 returns c =
     let l = c.loop-t in
     let p = c.args in
-    omega (arith, l.invariant.1, ap length (image-none p.t1 p.cells.now (p.t1.n - l.t) l.t (omega arith)))
+    omega (arith, l.invariant.1, ap length (image-none p.cat p.cells.now (p.cat.n - l.t) l.t (omega arith)))

@@ -1,7 +1,6 @@
 -- `writer::checker::rows_fault` meets its contract. Invariant: the rows passed meet no refusal, so the whole answer is the answer of the rows that are left. Assumes nothing.
 use native.Mathlib.Omega.{arith}
 use mathlib.Core.Path.{◌≡◌, refl, sym, ◌∙◌}
-use mathlib.Core.Logic.{⊎_elim}
 use mathlib.Core.Bool.{true, false, ◌||◌}
 use Rattle.laws.specs.Lists.{part}
 use Rattle.laws.proofs.TestLaws.{or_left}
@@ -10,7 +9,7 @@ use Rattle.tables.specs.Versions.{blank}
 use Rattle.writer.specs.Write.{too_high}
 use Rattle.writer.proofs.WriteLaws.{or-none, rows_next, rows_none, rows-high, rows-blank, rows-flat, rows_more}
 use mathlib.Core.Bool.{true≢false}
-use Rattle.writer.proofs.checker.rows_fault.Goals.{Else-blank_at, Else-code_high, Joined-first}
+use Rattle.writer.proofs.checker.rows_fault.Goals.{Else-blank_at, Else-code_high, Joined-first, then-first, else-first}
 use Rattle.writer.proofs.checker.rows_fault.Goals as goal
 
 -- What the last test asks: the row is the first, or lies above the one before.
@@ -19,10 +18,10 @@ asked : (c : Joined-first)
     let a = c.args in
     c.if-first.value ≡ (l.first || below (part l.before a.width a.cells.now) (part l.at a.width a.cells.now)))
 asked c =
-    ⊎_elim
-    (λ w. w.1 ∙ w.0.taken ∙ sym (or_left _ w.0.taken))
-    (λ w. w.2 ∙ w.1.ensures ∙ sym (or-none _ w.0.left))
-    c.if-first.branch
+    elim c.if-first.branch [
+      | then-first w ↦ w.value-is ∙ w.if-first.true ∙ sym (or_left _ w.if-first.true)
+      | else-first w ↦ w.value-is ∙ w.rises.ensures ∙ sym (or-none _ w.if-first.false)
+    ]
 
 pub loop-left-init : goal.loop-left-init
 loop-left-init c = (omega arith, λ e. absurd (true≢false e), refl)

@@ -6,19 +6,18 @@ use mathlib.Core.List.{List}
 use lib.ListN.{length}
 use Rattle.laws.specs.Lists.{put}
 use Rattle.laws.proofs.ListLaws.{put-nil}
+use Rattle.tables.specs.declared.Catalogue.{Catalogue}
 use Rattle.tables.specs.Catalogues.{place_in}
-use Rattle.writer.specs.Write.{tables_image, head_bytes}
+use Rattle.writer.specs.Write.{tables_image, image_of, head_bytes}
 use Rattle.writer.proofs.AcceptLaws.{fault-accepted}
 use Rattle.laws.proofs.PlacedLaws.{placed-length, placed-rest}
 use Rattle.writer.proofs.WriteLaws.{table_bytes, Table, table-good, head-length, image-none, image-head}
-use Rattle.writer.proofs.putter.put_image.Goals.{After-put_head-at, After-width}
+use Rattle.writer.proofs.putter.put_image.Goals.{After-width}
 use Rattle.writer.proofs.putter.put_image.Goals as goal
 
 -- There is room for the head.
-room : (c : After-put_head-at) → 0 + length (head_bytes c.args.cat) ≤ length c.args.out.now
-room c =
-    let p = c in
-    omega (arith, head-length p.args.cat p.args.cells.now, p.requires.1)
+room : (cat : Catalogue) (cells out : List ℕ) → length (image_of cat cells) ≤ length out → 0 + length (head_bytes cat) ≤ length out
+room cat cells out h = omega (arith, head-length cat cells)
 
 -- What the table at hand has,
 here : (c : After-width)
@@ -33,7 +32,7 @@ fits : (c : After-width)
     ≤ length l.loop-t.out)
 fits c =
     let l = c in
-    omega (arith, (here c).size, l.loop-t.invariant.1, l.loop-t.invariant.2, placed-length (room UP-l-After-put_head-at) l.put_head-at.ensures, l.requires.1)
+    omega (arith, (here c).size, l.loop-t.invariant.1, l.loop-t.invariant.2, placed-length (room _ _ _ l.requires.1) l.put_head-at.ensures, l.requires.1)
 
 pub put_head-at-requires : goal.put_head-at-requires
 put_head-at-requires c =
@@ -65,10 +64,10 @@ loop-t-preserved c =
     let g = here (goal.at.loop-t-preserved d).After-width in
     let f = fits (goal.at.loop-t-preserved d).After-width in (
       omega (arith, d.loop-t-test.true),
-      placed-length f w ∙ l.inv.1,
-      omega (arith, w.next, g.size, l.inv.2),
-      l.inv.3 ∙ rw g.bytes (placed-rest f w _),
-      l.inv.4,
+      placed-length f w ∙ l.invariant.1,
+      omega (arith, w.next, g.size, l.invariant.2),
+      l.invariant.3 ∙ rw g.bytes (placed-rest f w _),
+      l.invariant.4,
     )
 
 pub returns : goal.returns
@@ -76,5 +75,5 @@ returns c =
     let l = c.loop-t in
     let h = c in
     let a = c.args in
-    let whole = ap (λ (bs : List ℕ). put bs a.out.now) (image-head a.t1 a.cells.now) ∙ placed-rest (room (goal.at.returns h).After-put_head-at) h.put_head-at.ensures (tables_image a.t1.n a.t1 a.cells.now 0) in
-    sym (whole ∙ l.invariant.3 ∙ rw (image-none a.t1 a.cells.now (a.t1.n - l.t) l.t (omega arith)) (put-nil l.out l.at))
+    let whole = ap (λ (bs : List ℕ). put bs a.out.now) (image-head a.cat a.cells.now) ∙ placed-rest (room _ _ _ h.requires.1) h.put_head-at.ensures (tables_image a.cat.n a.cat a.cells.now 0) in
+    sym (whole ∙ l.invariant.3 ∙ rw (image-none a.cat a.cells.now (a.cat.n - l.t) l.t (omega arith)) (put-nil l.out l.at))

@@ -8,4 +8,4 @@ pub returns : goal.returns
 returns c =
     let w = c.write in
     let a = c.args in
-    record { next = omega (arith, w.ensures.count); bytes = lent a.at a.out.now (encode a.x) w.new.0 (omega arith) w.ensures.bytes }
+    record { next = omega (arith, w.ensures.count); bytes = lent a.at a.out.now (encode a.x) w.new.out (omega arith) w.ensures.bytes }
