@@ -10,16 +10,13 @@ use lib.ListN.{length, drop}
 use lib.Dec.{ltb, leb}
 use lib.Pow.{pow_mono}
 use borrow.Author.Tests.{lt-ltb, le-ltb, le-leb, lt-leb, ltb-true, leb-true}
-use Rattle.laws.proofs.TestLaws.{and_split, which}
 use Rattle.tables.specs.Checks.{first_met}
 use Rattle.text.specs.declared.Form.TheVariants.{AtStart}
-use Rattle.text.specs.declared.Fielded.{Fielded}
 use Rattle.text.specs.declared.Fielded.TheVariants.{ToComma, ToLine, Nothing, OutsideHere}
-use Rattle.text.specs.Lines.{Lines, done, line, last_line, lines_from}
+use Rattle.text.specs.Lines.{Lines, line, lines_from}
 use Rattle.text.specs.Reading.{header_fault, scheme_from, refused, or_else, rows_from, headed}
 use Rattle.text.specs.Fields.{field_at}
 use Rattle.text.proofs.Fieldwise.{comma-next, line-next, lines-field}
-use Rattle.importer.specs.declared.Head.{Head}
 use Rattle.importer.specs.declared.Head.TheVariants.{Rows, BadHead}
 use Rattle.importer.specs.Steps.{head_bad, scheme_on, head_or, head_told, HeadSizes, HeadSays}
 use Rattle.importer.proofs.LineSteps.{length-snoc, last-behind, last_none}

@@ -4,16 +4,15 @@ use native.Mathlib.Decide.{ℕ_discrete}
 use native.Mathlib.Omega.{arith}
 use mathlib.Core.Path.{◌≡◌, refl, sym, ap, ◌∙◌}
 use mathlib.Core.Bool.{Bool, true, false, cond}
-use mathlib.Core.List.{List, [], ◌∷◌, ◌++◌, append_assoc, append-nil}
+use mathlib.Core.List.{List, [], ◌∷◌, ◌++◌, append_assoc}
 use lib.ListN.{length, drop, length-append}
 use lib.Dec.{ltb, eqb}
 use borrow.Author.Tests.{eq-eqb, ne_eqb, lt-ltb, le-ltb}
 use Rattle.tables.specs.Checks.{first_met}
 use Rattle.text.specs.declared.Form.TheVariants.{AtStart}
-use Rattle.text.specs.declared.Fielded.{Fielded}
 use Rattle.text.specs.declared.Fielded.TheVariants.{ToComma, ToLine, Nothing, OutsideHere}
-use Rattle.text.specs.Lines.{no_code, Lines, done, broken, line, last_line, lines_from}
-use Rattle.text.specs.Reading.{cell_fault, insert, refused, counted, or_else, rows_from}
+use Rattle.text.specs.Lines.{no_code, Lines, done, line, last_line, lines_from}
+use Rattle.text.specs.Reading.{cell_fault, insert, refused, or_else, rows_from}
 use Rattle.text.specs.Fields.{field_at, code_of, next_of, codes_at}
 use Rattle.text.proofs.TextSays.{late, row-wrong, row-broken}
 use Rattle.text.proofs.Fieldwise.{comma-next, line-next, lines-field, codes-none, codes-next}

@@ -1,9 +1,9 @@
 -- "The text writer refuses a table as the image writer refuses one table alone, 21 aside": its tests are the image writer's on a catalogue of one table.
 -- Assumes nothing.
-use Prim.Native.Nat.{ℕ, zero, suc, ◌+◌, ◌*◌, ◌≤◌, ◌<◌}
+use Prim.Native.Nat.{ℕ, zero, suc, ◌+◌, ◌*◌, ◌≤◌}
 use native.Mathlib.Nat.{zero-add}
 use native.Mathlib.Omega.{arith}
-use mathlib.Core.Path.{◌≡◌, refl, sym, ap, ◌∙◌}
+use mathlib.Core.Path.{◌≡◌, refl, sym, ◌∙◌}
 use mathlib.Core.Bool.{Bool, true, false, cond, ◌||◌}
 use mathlib.Core.List.{List, [], ◌∷◌}
 use lib.ListN.{length, drop}
@@ -12,7 +12,7 @@ use lib.Count.{ones}
 use lib.Dec.{ltb}
 use Rattle.laws.specs.Lists.{part}
 use Rattle.tables.specs.Sizes.{most_attributes, most_rows, most_rows_one, most_cells, version_one}
-use Rattle.tables.specs.Catalogues.{count_of, first_cell, touching_of}
+use Rattle.tables.specs.Catalogues.{first_cell, touching_of}
 use Rattle.tables.specs.Rows.{below}
 use Rattle.tables.specs.Checks.{first_met, outside, size_fault, bad_scheme, count_fault, table_fault as table_fault_of, tables_fault, shape_fault, stored_fault, catalogue_fault}
 use Rattle.tables.specs.Versions.{version_of, blank}
