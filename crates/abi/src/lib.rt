@@ -153,8 +153,7 @@ fn put_count(count: u64, words: &mut [u64])
 
 // Loads an image into the lent cells, its catalogue into the lent words, and the count of the bytes looked at into `looked`.
 // The answer is the door's number (0 for good, else place x 32 + refusal), or 31 where the words are too few.
-#[unsafe(no_mangle)]
-pub extern "C" fn harbour_load(
+pub fn harbour_load(
     image: &[u8],
     cells: &mut [u64],
     catalogue: &mut [u64],
@@ -176,8 +175,7 @@ pub extern "C" fn harbour_load(
 
 // Makes the catalogue of tables made by hand, whose m, n, schemes and row counts are the front of the lent words.
 // The answer is 0, or the first of 4, 5, 6 and 8 with a catalogue of zeros, or 31 where the words are too few.
-#[unsafe(no_mangle)]
-pub extern "C" fn harbour_make_catalogue(given: &[u64], catalogue: &mut [u64]) -> u64
+pub fn harbour_make_catalogue(given: &[u64], catalogue: &mut [u64]) -> u64
     ensures { MakeCall given.now catalogue.old result catalogue.new }
 {
     if make_short(given, catalogue) {
@@ -193,8 +191,7 @@ pub extern "C" fn harbour_make_catalogue(given: &[u64], catalogue: &mut [u64]) -
 
 // Writes the image of tables into the lent bytes.
 // The answer is the length x 32, or the refusal, or 31 where the words are too few.
-#[unsafe(no_mangle)]
-pub extern "C" fn harbour_write(catalogue: &[u64], cells: &[u64], out: &mut [u8]) -> u64
+pub fn harbour_write(catalogue: &[u64], cells: &[u64], out: &mut [u8]) -> u64
     ensures { WriteCall catalogue.now cells.now out.old result out.new }
 {
     if too_few(catalogue.len()) {

@@ -57,8 +57,7 @@ fn list_short(catalogue: &[u64], res: &[u64]) -> bool
 
 // Checks a list of keys: whether it holds every maximal set once and nothing else.
 // The answer is its number, or 31 where the words are too few; the two words at the front of the result are what it names.
-#[unsafe(no_mangle)]
-pub extern "C" fn harbour_check_list(
+pub fn harbour_check_list(
     catalogue: &[u64],
     cells: &[u64],
     listed_low: &[u64],

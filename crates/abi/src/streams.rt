@@ -117,8 +117,7 @@ fn next_short(catalogue: &[u64], words: &[u64], res: &[u64], needed: usize) -> b
 
 // Opens a stream on the tables, and copies its record into the lent words.
 // The answer is row tests x 32, or the refusal, or 31 where the words are too few.
-#[unsafe(no_mangle)]
-pub extern "C" fn harbour_open(
+pub fn harbour_open(
     catalogue: &[u64],
     cells: &[u64],
     low: &mut [u64],
@@ -141,8 +140,7 @@ pub extern "C" fn harbour_open(
 
 // One call of an open stream with a budget of trials; its record is moved on in the lent words.
 // The answer is its number, or 31 where the words are too few.
-#[unsafe(no_mangle)]
-pub extern "C" fn harbour_next(
+pub fn harbour_next(
     catalogue: &[u64],
     cells: &[u64],
     low: &mut [u64],
@@ -181,8 +179,7 @@ pub extern "C" fn harbour_next(
 
 // Opens a stream of the sets that hold one row of a table, and copies its record into the lent words.
 // The answer is row tests x 32, or the refusal, or 31 where the words are too few.
-#[unsafe(no_mangle)]
-pub extern "C" fn harbour_open_holding(
+pub fn harbour_open_holding(
     catalogue: &[u64],
     cells: &[u64],
     low: &mut [u64],
@@ -216,8 +213,7 @@ pub extern "C" fn harbour_open_holding(
 
 // One call of a stream of the sets that hold one row; its record is moved on in the lent words.
 // The answer is its number, or 31 where the words are too few.
-#[unsafe(no_mangle)]
-pub extern "C" fn harbour_next_holding(
+pub fn harbour_next_holding(
     catalogue: &[u64],
     cells: &[u64],
     low: &mut [u64],
@@ -256,8 +252,7 @@ pub extern "C" fn harbour_next_holding(
 
 // Whether one padded row covers another: 1 for yes, 0 for no.
 // The rows may have any length.
-#[unsafe(no_mangle)]
-pub extern "C" fn harbour_covers(first: &[u64], second: &[u64]) -> u64
+pub fn harbour_covers(first: &[u64], second: &[u64]) -> u64
     ensures { CoversCall first.now second.now result }
 {
     if padding::covers(first, second) {

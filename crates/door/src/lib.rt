@@ -5,8 +5,7 @@ ghost use Rattle.door.specs.Door.{Checks};
 
 // Whether an image is good; 8,192 cells of room are assumed.
 // The loader's first pass alone decides, so no cell is copied on the way.
-#[unsafe(no_mangle)]
-pub extern "C" fn harbour_check(image: &[u8]) -> u64
+pub fn harbour_check(image: &[u8]) -> u64
     ensures { Checks image.now result }
 {
     let r = loader::scan(image, 8192);
