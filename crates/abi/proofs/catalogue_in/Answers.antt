@@ -5,5 +5,4 @@ use Rattle.abi.proofs.catalogue_in.Goals as goal
 pub returns : goal.returns
 unfolding catalogue_in
 returns c =
-    let d = c in
-    rw (d.schemes_in-schemes.ensures, d.shorts_in-rows.ensures, d.shorts_in-places.ensures, d.shorts_in-touching.ensures)
+    rw (c.schemes_in-schemes.ensures, c.shorts_in-rows.ensures, c.shorts_in-places.ensures, c.shorts_in-touching.ensures)

@@ -37,7 +37,4 @@ put_catalogue-requires c = (long (goal.at.put_catalogue-requires c).Else-make_sh
 
 pub returns : goal.returns
 returns c =
-    let p = c in
-    let m = p in
-    let s = m in
-    make-done _ _ _ _ _ _ (enough (goal.at.returns s).Else-make_short) s.schemes_in-schemes.ensures s.shorts_in-rows.ensures m.make_catalogue-m.ensures p.put_catalogue.ensures
+    make-done _ _ _ _ _ _ (enough (goal.at.returns c).Else-make_short) c.schemes_in-schemes.ensures c.shorts_in-rows.ensures c.make_catalogue-m.ensures c.put_catalogue.ensures

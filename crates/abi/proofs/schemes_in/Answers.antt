@@ -15,13 +15,12 @@ loop-t-init c = (omega arith, refl, refl)
 
 pub loop-t-preserved : goal.loop-t-preserved
 loop-t-preserved c =
-    let i = c in
-    let l = i.loop-t in
-    let ws = i.args.words.now in (
-      omega (arith, i.loop-t-test.true),
+    let l = c.loop-t in
+    let ws = c.args.words.now in (
+      omega (arith, c.loop-t-test.true),
       simp length-set l.invariant.1,
-      take_next l.schemes (part schemes_at l.t ws) l.t _ (omega (arith, i.loop-t-test.true, l.invariant.1)) l.invariant.2
-          ∙ sym (part-next schemes_at l.t ws (omega (arith, i.loop-t-test.true, i.requires))),
+      take_next l.schemes (part schemes_at l.t ws) l.t _ (omega (arith, c.loop-t-test.true, l.invariant.1)) l.invariant.2
+          ∙ sym (part-next schemes_at l.t ws (omega (arith, c.loop-t-test.true, c.requires))),
     )
 
 pub returns : goal.returns

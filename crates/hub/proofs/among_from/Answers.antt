@@ -28,20 +28,16 @@ here c = keys-at _ _ _ (there c)
 
 pub returns-then-is_key : goal.returns-then-is_key
 returns-then-is_key c =
-    let k = c in
-    λ n. sym ((among-iff _ _ _).1 (k.loop-i.i, k.loop-i-test.true, here (goal.at.returns-then-is_key k).In-loop-i ∙ eqb-true _ _ (sym c.is_key.ensures ∙ c.if-is_key.true)))
+    λ n. sym ((among-iff _ _ _).1 (c.loop-i.i, c.loop-i-test.true, here (goal.at.returns-then-is_key c).In-loop-i ∙ eqb-true _ _ (sym c.is_key.ensures ∙ c.if-is_key.true)))
 
 pub loop-i-preserved : goal.loop-i-preserved
-loop-i-preserved c =
-    let k = c in
-    let l = k in (
-      omega (arith, l.loop-i.invariant.0),
-      omega (arith, k.loop-i-test.true),
-      λ n. among_next _ _ _ (l.loop-i.invariant.2 n) (λ e. eqb-false _ _ (sym c.is_key.ensures ∙ c.if-is_key.false) (sym (here (goal.at.loop-i-preserved k).In-loop-i) ∙ e)),
-    )
+loop-i-preserved c = (
+  omega (arith, c.loop-i.invariant.0),
+  omega (arith, c.loop-i-test.true),
+  λ n. among_next _ _ _ (c.loop-i.invariant.2 n) (λ e. eqb-false _ _ (sym c.is_key.ensures ∙ c.if-is_key.false) (sym (here (goal.at.loop-i-preserved c).In-loop-i) ∙ e)),
+)
 
 pub returns : goal.returns
 returns c =
-    let l = c in
-    let e : l.loop-i.i ≡ l.args.to = omega (arith, l.loop-i.invariant.1, c.loop-i-test.false) in
-    λ n. sym (rw e at (l.loop-i.invariant.2 n))
+    let e : c.loop-i.i ≡ c.args.to = omega (arith, c.loop-i.invariant.1, c.loop-i-test.false) in
+    λ n. sym (rw e at (c.loop-i.invariant.2 n))

@@ -29,8 +29,7 @@ key_at-word-requires c = keys-both _ _ _ c.requires.1
 
 pub returns-then-i-eq0 : goal.returns-then-i-eq0
 returns-then-i-eq0 c =
-    let s = c in
-    enters-first s.args.n s.args.low.now s.args.high.now s.args.left.now s.args.right.now _ s.requires.3 s.requires.1 s.requires.2 c.if-i-eq0.true
+    enters-first c.args.n c.args.low.now c.args.high.now c.args.left.now c.args.right.now _ c.requires.3 c.requires.1 c.requires.2 c.if-i-eq0.true
 
 pub in_list-requires : goal.in_list-requires
 in_list-requires c =
@@ -39,51 +38,45 @@ in_list-requires c =
 
 pub returns-then-i-ge-MOST_RECORDS : goal.returns-then-i-ge-MOST_RECORDS
 returns-then-i-ge-MOST_RECORDS c =
-    let s = c in
-    enters-late s.args.n s.args.low.now s.args.high.now s.args.left.now s.args.right.now _ s.requires.3 s.requires.1 s.requires.2 _ c.if-i-ge-MOST_RECORDS.true
-    (rw (own s.args.low.now s.args.high.now s.args.i s.requires.1 c.key_at-word.ensures) at c.in_list.ensures)
+    enters-late c.args.n c.args.low.now c.args.high.now c.args.left.now c.args.right.now _ c.requires.3 c.requires.1 c.requires.2 _ c.if-i-ge-MOST_RECORDS.true
+    (rw (own c.args.low.now c.args.high.now c.args.i c.requires.1 c.key_at-word.ensures) at c.in_list.ensures)
 
 pub key_bits-bits-requires : goal.key_bits-bits-requires
 key_bits-bits-requires c = c.requires.0
 
 pub find-requires : goal.find-requires
 find-requires c =
-    let s = c in
-    let p = s.requires in (
+    let p = c.requires in (
       omega (arith, c.if-i-eq0.false),
-      omega (arith, c.if-i-ge-MOST_RECORDS.false, p.1, keys_length s.args.low.now s.args.high.now, p.3.long-left, p.3.long-right),
+      omega (arith, c.if-i-ge-MOST_RECORDS.false, p.1, keys_length c.args.low.now c.args.high.now, p.3.long-left, p.3.long-right),
       rw c.key_bits-bits.ensures (omega (arith, p.0)),
     )
 
 pub hang-requires : goal.hang-requires
 hang-requires c =
-    let s = c in
-    let a = s.args in
-    let f = seeks a.low.now a.high.now a.left.now a.right.now a.n a.i s.requires.1 c.key_at-word.ensures c.key_bits-bits.ensures c.find.ensures in
+    let a = c.args in
+    let f = seeks a.low.now a.high.now a.left.now a.right.now a.n a.i c.requires.1 c.key_at-word.ensures c.key_bits-bits.ensures c.find.ensures in
     let h = absent-place (store_in a.low.now a.high.now a.left.now a.right.now a.i) _ _ (omega (arith, c.if-i-eq0.false)) (sym c.in-Absent.is ∙ f) in
-    (omega (arith, h, c.if-i-ge-MOST_RECORDS.false, s.requires.3.long-left), omega (arith, h, c.if-i-ge-MOST_RECORDS.false, s.requires.3.long-right), omega (arith, c.if-i-ge-MOST_RECORDS.false))
+    (omega (arith, h, c.if-i-ge-MOST_RECORDS.false, c.requires.3.long-left), omega (arith, h, c.if-i-ge-MOST_RECORDS.false, c.requires.3.long-right), omega (arith, c.if-i-ge-MOST_RECORDS.false))
 
 pub returns-in-Found : goal.returns-in-Found
 returns-in-Found c =
-    let s = c in
-    let a = s.args in
-    let f = seeks a.low.now a.high.now a.left.now a.right.now a.n a.i s.requires.1 c.key_at-word.ensures c.key_bits-bits.ensures c.find.ensures in
-    enters-known a.n a.low.now a.high.now a.left.now a.right.now _ s.requires.3 s.requires.1 s.requires.2
+    let a = c.args in
+    let f = seeks a.low.now a.high.now a.left.now a.right.now a.n a.i c.requires.1 c.key_at-word.ensures c.key_bits-bits.ensures c.find.ensures in
+    enters-known a.n a.low.now a.high.now a.left.now a.right.now _ c.requires.3 c.requires.1 c.requires.2
     (omega (arith, c.if-i-eq0.false)) (omega (arith, c.if-i-ge-MOST_RECORDS.false)) _ _ (sym c.in-Found.is ∙ f)
 
 pub returns-in-Absent : goal.returns-in-Absent
 returns-in-Absent c =
-    let s = c in
-    let a = s.args in
-    let f = seeks a.low.now a.high.now a.left.now a.right.now a.n a.i s.requires.1 c.key_at-word.ensures c.key_bits-bits.ensures c.find.ensures in
-    enters-new a.n a.low.now a.high.now a.left.now a.right.now _ s.requires.3 s.requires.1 s.requires.2
+    let a = c.args in
+    let f = seeks a.low.now a.high.now a.left.now a.right.now a.n a.i c.requires.1 c.key_at-word.ensures c.key_bits-bits.ensures c.find.ensures in
+    enters-new a.n a.low.now a.high.now a.left.now a.right.now _ c.requires.3 c.requires.1 c.requires.2
     (omega (arith, c.if-i-eq0.false)) (omega (arith, c.if-i-ge-MOST_RECORDS.false)) _ _ _ _ _ (sym c.in-Absent.is ∙ f) c.hang.ensures
 
 pub returns-in-Damaged : goal.returns-in-Damaged
 returns-in-Damaged c =
-    let s = c in
-    let a = s.args in
-    let f = seeks a.low.now a.high.now a.left.now a.right.now a.n a.i s.requires.1 c.key_at-word.ensures c.key_bits-bits.ensures c.find.ensures in
+    let a = c.args in
+    let f = seeks a.low.now a.high.now a.left.now a.right.now a.n a.i c.requires.1 c.key_at-word.ensures c.key_bits-bits.ensures c.find.ensures in
     absurd
-    (never-damaged a.n a.low.now a.high.now a.left.now a.right.now _ s.requires.3 s.requires.1 s.requires.2
+    (never-damaged a.n a.low.now a.high.now a.left.now a.right.now _ c.requires.3 c.requires.1 c.requires.2
     (omega (arith, c.if-i-eq0.false)) (omega (arith, c.if-i-ge-MOST_RECORDS.false)) _ (sym c.in-Damaged.is ∙ f))

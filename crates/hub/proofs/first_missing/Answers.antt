@@ -25,51 +25,47 @@ key_at-key-requires c = keys-both _ _ _ (omega (arith, c.loop-i-test.true, c.lis
 
 pub first_out-out-requires : goal.first_out-out-requires
 first_out-out-requires c =
-    let s = c in
     let i = c.loop-i.i in
-    let w = listed_keys s.args.low.now s.args.high.now in
+    let w = listed_keys c.args.low.now c.args.high.now in
     let l : i < length w = omega (arith, c.loop-i-test.true, c.list_length-count.ensures) in
-    let o = own s.args.low.now s.args.high.now i l c.key_at-key.ensures in
-    let m = s.requires.2 in (
-      s.requires.0,
-      s.requires.1,
-      rw o (entry_named s.args.cat s.args.cells.now _ s.requires.0 w m i l),
-      rw o (set-maximal s.args.cat s.args.cells.now _ s.requires.0 w m i l),
+    let o = own c.args.low.now c.args.high.now i l c.key_at-key.ensures in
+    let m = c.requires.2 in (
+      c.requires.0,
+      c.requires.1,
+      rw o (entry_named c.args.cat c.args.cells.now _ c.requires.0 w m i l),
+      rw o (set-maximal c.args.cat c.args.cells.now _ c.requires.0 w m i l),
       m,
-      s.requires.3,
+      c.requires.3,
     )
 
 pub returns-then-not-is_none : goal.returns-then-not-is_none
 returns-then-not-is_none c =
-    let s = c in
     let i = c.loop-i.i in
-    let w = listed_keys s.args.low.now s.args.high.now in
+    let w = listed_keys c.args.low.now c.args.high.now in
     let l : i < length w = omega (arith, c.loop-i-test.true, c.list_length-count.ensures) in
-    let e = rw (own s.args.low.now s.args.high.now i l c.key_at-key.ensures) at c.first_out-out.ensures in
+    let e = rw (own c.args.low.now c.args.high.now i l c.key_at-key.ensures) at c.first_out-out.ensures in
     let n = eqb-false _ _ (sym c.is_none.ensures ∙ not-true _ c.if-not-is_none.true-raw) in
-    sym (ap out_of c.loop-i.invariant.1 ∙ missing-out s.args.cat s.args.cells.now _ s.requires.0 w s.requires.2 i l (λ z. n (e ∙ z)) ∙ sym e)
+    sym (ap out_of c.loop-i.invariant.1 ∙ missing-out c.args.cat c.args.cells.now _ c.requires.0 w c.requires.2 i l (λ z. n (e ∙ z)) ∙ sym e)
 
 pub loop-i-preserved : goal.loop-i-preserved
 loop-i-preserved c =
-    let s = c in
     let i = c.loop-i.i in
-    let w = listed_keys s.args.low.now s.args.high.now in
+    let w = listed_keys c.args.low.now c.args.high.now in
     let l : i < length w = omega (arith, c.loop-i-test.true, c.list_length-count.ensures) in
-    let e = rw (own s.args.low.now s.args.high.now i l c.key_at-key.ensures) at c.first_out-out.ensures in (
+    let e = rw (own c.args.low.now c.args.high.now i l c.key_at-key.ensures) at c.first_out-out.ensures in (
       omega (arith, c.loop-i-test.true),
       c.loop-i.invariant.1
-          ∙ missing-on s.args.cat s.args.cells.now _ s.requires.0 w s.requires.2 i l
+          ∙ missing-on c.args.cat c.args.cells.now _ c.requires.0 w c.requires.2 i l
           (sym e ∙ eqb-true _ _ (sym c.is_none.ensures ∙ not-false _ c.if-not-is_none.false-raw)),
     )
 
 pub returns : goal.returns
 returns c =
-    let s = c in
     let l = c.loop-i in
     let n = c.list_length-count.ensures in
     c.none.ensures
     ∙ sym
     (ap out_of
     (l.invariant.1
-    ∙ missing-end s.args.cat s.args.cells.now _ s.requires.0 (listed_keys s.args.low.now s.args.high.now) s.requires.2 l.i (omega (arith, n, c.loop-i-test.false))
+    ∙ missing-end c.args.cat c.args.cells.now _ c.requires.0 (listed_keys c.args.low.now c.args.high.now) c.requires.2 l.i (omega (arith, n, c.loop-i-test.false))
     (omega (arith, n, l.invariant.0))))

@@ -29,66 +29,56 @@ row_at-row-requires c = (lawful-all _ _ c.requires.0, omega (arith, c.total_rows
 
 pub reached_by-to-requires : goal.reached_by-to-requires
 reached_by-to-requires c =
-    let s = c in
-    let l : c.loop-j.j < total s.args.cat = omega (arith, c.total_rows-total.ensures, c.loop-j-test.true) in
-    (s.requires.0, s.requires.1, s.requires.2, rw c.row_at-row.ensures (place-there s.args.cat s.args.cells.now _ l), s.requires.3)
+    let l : c.loop-j.j < total c.args.cat = omega (arith, c.total_rows-total.ensures, c.loop-j-test.true) in
+    (c.requires.0, c.requires.1, c.requires.2, rw c.row_at-row.ensures (place-there c.args.cat c.args.cells.now _ l), c.requires.3)
 
 -- The row at place j is there,
-low : (c : After-reached_by-to) → let s = c in c.loop-j.j < total s.args.cat
+low : (c : After-reached_by-to) → c.loop-j.j < total c.args.cat
 low c = omega (arith, c.total_rows-total.ensures, c.loop-j-test.true)
 
 -- its trial is sought among all entries,
 count : (c : After-reached_by-to)
-    → let s = c in
-    c.list_length-count.result ≡ length (listed_keys s.args.low.now s.args.high.now)
+    → c.list_length-count.result ≡ length (listed_keys c.args.low.now c.args.high.now)
 count c = c.list_length-count.ensures
 
 -- and comes to this key.
 comes : (c : After-reached_by-to)
-    → let s = c in
-    let W = world_of s.args.cat s.args.cells.now in
-    number_of c.reached_by-to.result ≡ key_of bits_per_row (trial W (set_of s.args.cat (number_of s.args.key)) (row_at W c.loop-j.j)).rows
+    → let W = world_of c.args.cat c.args.cells.now in
+    number_of c.reached_by-to.result ≡ key_of bits_per_row (trial W (set_of c.args.cat (number_of c.args.key)) (row_at W c.loop-j.j)).rows
 comes c =
-    let s = c in
-    let W = world_of s.args.cat s.args.cells.now in
+    let W = world_of c.args.cat c.args.cells.now in
     (rw c.row_at-row.ensures at c.reached_by-to.ensures)
-    ∙ ap (λ (p : Place). key_of bits_per_row (trial W (set_of s.args.cat (number_of s.args.key)) p).rows) (sym (row-place s.args.cat s.args.cells.now _ (low c)))
+    ∙ ap (λ (p : Place). key_of bits_per_row (trial W (set_of c.args.cat (number_of c.args.key)) p).rows) (sym (row-place c.args.cat c.args.cells.now _ (low c)))
 
 pub in_list-requires : goal.in_list-requires
 in_list-requires c =
-    let s = c in
-    (s.requires.0.tables, omega (arith, c.list_length-count.ensures), row_low s.args.cat s.args.cells.now _ s.requires.0 (listed_keys s.args.low.now s.args.high.now) s.requires.4 _ s.requires.3 _ _ (low c) (comes c), rw (count c) s.requires.5)
+    (c.requires.0.tables, omega (arith, c.list_length-count.ensures), row_low c.args.cat c.args.cells.now _ c.requires.0 (listed_keys c.args.low.now c.args.high.now) c.requires.4 _ c.requires.3 _ _ (low c) (comes c), rw (count c) c.requires.5)
 
 pub returns-then-not-in_list : goal.returns-then-not-in_list
 returns-then-not-in_list c =
-    let s = c in
-    let r = c in
     sym
     (ap out_of c.loop-j.invariant.1
-    ∙ tries-out s.args.cat s.args.cells.now _ s.requires.0 (listed_keys s.args.low.now s.args.high.now) s.requires.4 _ s.requires.3 _ _ (low (goal.at.returns-then-not-in_list r).After-reached_by-to) (comes (goal.at.returns-then-not-in_list r).After-reached_by-to)
-    (ap (λ (k : ℕ). among (listed_keys s.args.low.now s.args.high.now) k (number_of r.reached_by-to.result)) (sym (count (goal.at.returns-then-not-in_list r).After-reached_by-to))
+    ∙ tries-out c.args.cat c.args.cells.now _ c.requires.0 (listed_keys c.args.low.now c.args.high.now) c.requires.4 _ c.requires.3 _ _ (low (goal.at.returns-then-not-in_list c).After-reached_by-to) (comes (goal.at.returns-then-not-in_list c).After-reached_by-to)
+    (ap (λ (k : ℕ). among (listed_keys c.args.low.now c.args.high.now) k (number_of c.reached_by-to.result)) (sym (count (goal.at.returns-then-not-in_list c).After-reached_by-to))
     ∙ sym c.in_list.ensures
     ∙ not-true _ c.if-not-in_list.true-raw))
 
 pub loop-j-preserved : goal.loop-j-preserved
-loop-j-preserved c =
-    let s = c in
-    let r = c in (
-      omega (arith, c.loop-j-test.true),
-      c.loop-j.invariant.1
-          ∙ tries-on s.args.cat s.args.cells.now _ s.requires.0 (listed_keys s.args.low.now s.args.high.now) s.requires.4 _ s.requires.3 _ _ (low (goal.at.loop-j-preserved r).After-reached_by-to) (comes (goal.at.loop-j-preserved r).After-reached_by-to)
-          (ap (λ (k : ℕ). among (listed_keys s.args.low.now s.args.high.now) k (number_of r.reached_by-to.result)) (sym (count (goal.at.loop-j-preserved r).After-reached_by-to))
-          ∙ sym c.in_list.ensures
-          ∙ not-false _ c.if-not-in_list.false-raw),
-    )
+loop-j-preserved c = (
+  omega (arith, c.loop-j-test.true),
+  c.loop-j.invariant.1
+      ∙ tries-on c.args.cat c.args.cells.now _ c.requires.0 (listed_keys c.args.low.now c.args.high.now) c.requires.4 _ c.requires.3 _ _ (low (goal.at.loop-j-preserved c).After-reached_by-to) (comes (goal.at.loop-j-preserved c).After-reached_by-to)
+      (ap (λ (k : ℕ). among (listed_keys c.args.low.now c.args.high.now) k (number_of c.reached_by-to.result)) (sym (count (goal.at.loop-j-preserved c).After-reached_by-to))
+      ∙ sym c.in_list.ensures
+      ∙ not-false _ c.if-not-in_list.false-raw),
+)
 
 pub returns : goal.returns
 returns c =
-    let s = c in
     let n = c.total_rows-total.ensures in
     let l = c.loop-j in
     c.none.ensures
     ∙ sym
     (ap out_of
     (l.invariant.1
-    ∙ tries-end s.args.cat s.args.cells.now _ s.requires.0 (listed_keys s.args.low.now s.args.high.now) s.requires.4 (set_of s.args.cat (number_of s.args.key)) s.requires.3 l.j (omega (arith, n, c.loop-j-test.false)) (omega (arith, n, l.invariant.0))))
+    ∙ tries-end c.args.cat c.args.cells.now _ c.requires.0 (listed_keys c.args.low.now c.args.high.now) c.requires.4 (set_of c.args.cat (number_of c.args.key)) c.requires.3 l.j (omega (arith, n, c.loop-j-test.false)) (omega (arith, n, l.invariant.0))))

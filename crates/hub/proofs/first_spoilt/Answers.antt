@@ -34,34 +34,31 @@ shape_of-right-then-not-is_maximal c = c.loop-i.invariant.4
 
 pub returns-then-not-is_maximal : goal.returns-then-not-is_maximal
 returns-then-not-is_maximal c =
-    let s = c in
     let i = c.loop-i.i in
-    let w = listed_keys s.args.low.now s.args.high.now in
+    let w = listed_keys c.args.low.now c.args.high.now in
     let l : i < length w = omega (arith, c.loop-i-test.true, c.list_length-count.ensures) in
-    let f = rw (own s.args.low.now s.args.high.now i l c.key_at-word.ensures) at (sym c.is_maximal.ensures ∙ not-true _ c.if-not-is_maximal.true-raw) in
+    let f = rw (own c.args.low.now c.args.high.now i l c.key_at-word.ensures) at (sym c.is_maximal.ensures ∙ not-true _ c.if-not-is_maximal.true-raw) in
     record {
-      first = record { within = omega (arith, l); before = c.loop-i.invariant.1; found = λ b. spoilt-lost s.args.cat s.args.cells.now _ s.requires.0 w _ f };
+      first = record { within = omega (arith, l); before = c.loop-i.invariant.1; found = λ b. spoilt-lost c.args.cat c.args.cells.now _ c.requires.0 w _ f };
       linked = λ e. absurd (omega (arith, l));
     }
 
 pub enter-requires : goal.enter-requires
 enter-requires c =
-    let s = c in
     let i = c.loop-i.i in
-    let w = listed_keys s.args.low.now s.args.high.now in
+    let w = listed_keys c.args.low.now c.args.high.now in
     let l : i < length w = omega (arith, c.loop-i-test.true, c.list_length-count.ensures) in
-    let y = rw (own s.args.low.now s.args.high.now i l c.key_at-word.ensures) at (sym c.is_maximal.ensures ∙ not-false _ c.if-not-is_maximal.false-raw) in
-    (s.requires.0.tables, l, (standing-named s.args.cat s.args.cells.now _ s.requires.0 _ y).low, c.loop-i.invariant.2)
+    let y = rw (own c.args.low.now c.args.high.now i l c.key_at-word.ensures) at (sym c.is_maximal.ensures ∙ not-false _ c.if-not-is_maximal.false-raw) in
+    (c.requires.0.tables, l, (standing-named c.args.cat c.args.cells.now _ c.requires.0 _ y).low, c.loop-i.invariant.2)
 
 pub returns-then-enter : goal.returns-then-enter
 returns-then-enter c =
-    let s = c in
     let i = c.loop-i.i in
-    let w = listed_keys s.args.low.now s.args.high.now in
+    let w = listed_keys c.args.low.now c.args.high.now in
     let l : i < length w = omega (arith, c.loop-i-test.true, c.list_length-count.ensures) in
-    let y = rw (own s.args.low.now s.args.high.now i l c.key_at-word.ensures) at (sym c.is_maximal.ensures ∙ not-false _ c.if-not-is_maximal.false-raw) in
+    let y = rw (own c.args.low.now c.args.high.now i l c.key_at-word.ensures) at (sym c.is_maximal.ensures ∙ not-false _ c.if-not-is_maximal.false-raw) in
     -- Whether entry i is spoilt is whether it repeats an earlier one.
-    let t = spoilt-new s.args.cat s.args.cells.now _ s.requires.0 w i y ∙ sym c.enter.ensures.repeats in
+    let t = spoilt-new c.args.cat c.args.cells.now _ c.requires.0 w i y ∙ sym c.enter.ensures.repeats in
     record {
       first = record { within = omega (arith, l); before = c.loop-i.invariant.1; found = λ b. t ∙ c.if-enter.true };
       linked = λ e. absurd (omega (arith, l));
@@ -69,12 +66,11 @@ returns-then-enter c =
 
 pub loop-i-preserved : goal.loop-i-preserved
 loop-i-preserved c =
-    let s = c in
     let i = c.loop-i.i in
-    let w = listed_keys s.args.low.now s.args.high.now in
+    let w = listed_keys c.args.low.now c.args.high.now in
     let l : i < length w = omega (arith, c.loop-i-test.true, c.list_length-count.ensures) in
-    let y = rw (own s.args.low.now s.args.high.now i l c.key_at-word.ensures) at (sym c.is_maximal.ensures ∙ not-false _ c.if-not-is_maximal.false-raw) in
-    let t = spoilt-new s.args.cat s.args.cells.now _ s.requires.0 w i y ∙ sym c.enter.ensures.repeats in
+    let y = rw (own c.args.low.now c.args.high.now i l c.key_at-word.ensures) at (sym c.is_maximal.ensures ∙ not-false _ c.if-not-is_maximal.false-raw) in
+    let t = spoilt-new c.args.cat c.args.cells.now _ c.requires.0 w i y ∙ sym c.enter.ensures.repeats in
     let v = c.loop-i.invariant in
     let k = c.enter.ensures.linked c.if-enter.false in (
       omega (arith, c.loop-i-test.true),
@@ -87,9 +83,8 @@ loop-i-preserved c =
 pub returns : goal.returns
 returns c =
     let l = c.loop-i in
-    let s = c in
     let n = c.list_length-count.ensures in
-    let e : l.i ≡ length (listed_keys s.args.low.now s.args.high.now) = omega (arith, l.invariant.0, c.loop-i-test.false, n) in
+    let e : l.i ≡ length (listed_keys c.args.low.now c.args.high.now) = omega (arith, l.invariant.0, c.loop-i-test.false, n) in
     record {
       first = record { within = omega (arith, n); before = λ u b. l.invariant.1 u (omega (arith, n, e, b)); found = λ b. absurd (omega (arith, n, b)) };
       linked = λ q. rw e at l.invariant.2;

@@ -27,8 +27,7 @@ returns-then-same c =
 
 pub returns : goal.returns
 returns c =
-    let s = c in
-    let p = s.requires in
+    let p = c.requires in
     let e = c.row_of-row.ensures in
-    let h : 0 < row_of bits_per_row (number_of s.args.key) s.args.t = omega (arith, e, c.if-row-eq0.false) in
+    let h : 0 < row_of bits_per_row (number_of c.args.key) c.args.t = omega (arith, e, c.if-row-eq0.false) in
     sym (gives_other _ _ _ p.0 _ _ p.2 p.3 _ _ (rw e at c.trial_set-g.ensures) h (eqb-false _ _ (sym c.same.ensures ∙ c.if-same.false)))

@@ -16,30 +16,27 @@ key_bits-bits-requires c = c.requires.0
 
 pub find-requires : goal.find-requires
 find-requires c =
-    let s = c in
-    let p = s.requires in
+    let p = c.requires in
     let e = c.records_of-built.ensures in (
       omega (arith, e, c.if-to-eq0.false),
-      omega (arith, e, p.1, keys_length s.args.low.now s.args.high.now, p.3.long-left, p.3.long-right),
+      omega (arith, e, p.1, keys_length c.args.low.now c.args.high.now, p.3.long-left, p.3.long-right),
       rw c.key_bits-bits.ensures (omega (arith, p.0)),
     )
 
 -- What the search says of the keys that have a record.
-tells : (c : After-find) → let s = c in Tells (listed_keys s.args.low.now s.args.high.now) (records_of s.args.to) (number_of s.args.word) c.find.result
+tells : (c : After-find) → Tells (listed_keys c.args.low.now c.args.high.now) (records_of c.args.to) (number_of c.args.word) c.find.result
 tells c =
-    let s = c in
     let h = c.if-to-eq0.false in
     rw (c.find.ensures, c.records_of-built.ensures, c.key_bits-bits.ensures)
-    (tree-tells s.args.n s.args.low.now s.args.high.now s.args.left.now s.args.right.now (records_of s.args.to) (number_of s.args.word) s.requires.3 (omega (arith, h))
-    (omega (arith, s.requires.1)) s.requires.2)
+    (tree-tells c.args.n c.args.low.now c.args.high.now c.args.left.now c.args.right.now (records_of c.args.to) (number_of c.args.word) c.requires.3 (omega (arith, h))
+    (omega (arith, c.requires.1)) c.requires.2)
 
 pub among_from-requires : goal.among_from-requires
 among_from-requires c = (omega (arith, c.records_of-built.ensures), c.requires.1)
 
 pub returns-in-Found : goal.returns-in-Found
 returns-in-Found c =
-    let s = c in
-    sym (among-more (listed_keys s.args.low.now s.args.high.now) (records_of s.args.to) s.args.to (number_of s.args.word) (omega arith) (rw c.in-Found.is at (tells (goal.at.returns-in-Found c).After-find)))
+    sym (among-more (listed_keys c.args.low.now c.args.high.now) (records_of c.args.to) c.args.to (number_of c.args.word) (omega arith) (rw c.in-Found.is at (tells (goal.at.returns-in-Found c).After-find)))
 
 pub returns-in-Absent : goal.returns-in-Absent
 returns-in-Absent c = c.among_from.ensures (rw c.records_of-built.ensures (rw c.in-Absent.is at (tells (goal.at.returns-in-Absent c).After-find)))

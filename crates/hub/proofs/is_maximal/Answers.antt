@@ -34,12 +34,10 @@ returns-then-not-gives_back c =
 
 pub loop-t-preserved : goal.loop-t-preserved
 loop-t-preserved c =
-    let l = c in
-    (omega (arith, c.loop-t-test.true), below_more _ _ l.loop-t.invariant.1 (sym c.gives_back.ensures ∙ not-false _ c.if-not-gives_back.false-raw))
+    (omega (arith, c.loop-t-test.true), below_more _ _ c.loop-t.invariant.1 (sym c.gives_back.ensures ∙ not-false _ c.if-not-gives_back.false-raw))
 
 pub returns : goal.returns
 returns c =
-    let l = c in
-    let p = l.requires in
-    let y = sym l.key_named.ensures ∙ not-false _ l.if-not-key_named.false-raw in
-    sym (named-standing _ _ _ p.0 _ y ∙ all_of _ _ (λ v b. l.loop-t.invariant.1 v (omega (arith, c.loop-t-test.false))))
+    let p = c.requires in
+    let y = sym c.key_named.ensures ∙ not-false _ c.if-not-key_named.false-raw in
+    sym (named-standing _ _ _ p.0 _ y ∙ all_of _ _ (λ v b. c.loop-t.invariant.1 v (omega (arith, c.loop-t-test.false))))

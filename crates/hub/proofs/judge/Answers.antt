@@ -22,60 +22,50 @@ judge_none-requires c = (c.requires, c.laid_out-layout.ensures)
 
 pub returns-then-count-eq0 : goal.returns-then-count-eq0
 returns-then-count-eq0 c =
-    let s = c in
     c.judge_none.ensures
-    ∙ ap (λ (l : List (List ℕ)). answer_of (verdict (world_of s.args.cat s.args.cells.now) l))
-    (sym (empty-sets s.args.cat s.args.cells.now _ s.requires (listed_keys s.args.low.now s.args.high.now) (sym c.list_length-count.ensures ∙ c.if-count-eq0.true)))
+    ∙ ap (λ (l : List (List ℕ)). answer_of (verdict (world_of c.args.cat c.args.cells.now) l))
+    (sym (empty-sets c.args.cat c.args.cells.now _ c.requires (listed_keys c.args.low.now c.args.high.now) (sym c.list_length-count.ensures ∙ c.if-count-eq0.true)))
 
 pub first_spoilt-spoilt-requires : goal.first_spoilt-spoilt-requires
 first_spoilt-spoilt-requires c = (c.requires, c.laid_out-layout.ensures, linked-start _ _ _)
 
 pub returns-then-spoilt-count : goal.returns-then-spoilt-count
 returns-then-spoilt-count c =
-    let s = c in
     sym
     (ap answer_of
-    (judged-entry s.args.cat s.args.cells.now _ s.requires (listed_keys s.args.low.now s.args.high.now) _ c.first_spoilt-spoilt.ensures.first
+    (judged-entry c.args.cat c.args.cells.now _ c.requires (listed_keys c.args.low.now c.args.high.now) _ c.first_spoilt-spoilt.ensures.first
     (omega (arith, c.if-spoilt-count.true, c.list_length-count.ensures))))
 
 -- Where no entry is spoilt, their number came back.
-clean : (c : Else-spoilt-count) → let s = c in c.first_spoilt-spoilt.result ≡ length (listed_keys s.args.low.now s.args.high.now)
+clean : (c : Else-spoilt-count) → c.first_spoilt-spoilt.result ≡ length (listed_keys c.args.low.now c.args.high.now)
 clean c = omega (arith, c.first_spoilt-spoilt.ensures.first.within, c.if-spoilt-count.false, c.list_length-count.ensures)
 
 all-good : (c : Else-spoilt-count)
-    → let s = c in
-    FirstIn (length (listed_keys s.args.low.now s.args.high.now)) (spoilt (world_of s.args.cat s.args.cells.now) (word_sets s.args.cat (listed_keys s.args.low.now s.args.high.now))) (length (listed_keys s.args.low.now s.args.high.now))
+    → FirstIn (length (listed_keys c.args.low.now c.args.high.now)) (spoilt (world_of c.args.cat c.args.cells.now) (word_sets c.args.cat (listed_keys c.args.low.now c.args.high.now))) (length (listed_keys c.args.low.now c.args.high.now))
 all-good c =
-    let s = c in
-    subst (FirstIn (length (listed_keys s.args.low.now s.args.high.now)) (spoilt (world_of s.args.cat s.args.cells.now) (word_sets s.args.cat (listed_keys s.args.low.now s.args.high.now))))
+    subst (FirstIn (length (listed_keys c.args.low.now c.args.high.now)) (spoilt (world_of c.args.cat c.args.cells.now) (word_sets c.args.cat (listed_keys c.args.low.now c.args.high.now))))
     (clean c) c.first_spoilt-spoilt.ensures.first
 
 pub first_missing-out-requires : goal.first_missing-out-requires
-first_missing-out-requires c =
-    let k = c in
-    let s = c in (
-      s.requires,
-      c.laid_out-layout.ensures,
-      judged-sound s.args.cat s.args.cells.now _ s.requires (listed_keys s.args.low.now s.args.high.now) (all-good (goal.at.first_missing-out-requires k).Else-spoilt-count),
-      c.first_spoilt-spoilt.ensures.linked (clean (goal.at.first_missing-out-requires k).Else-spoilt-count),
-    )
+first_missing-out-requires c = (
+  c.requires,
+  c.laid_out-layout.ensures,
+  judged-sound c.args.cat c.args.cells.now _ c.requires (listed_keys c.args.low.now c.args.high.now) (all-good (goal.at.first_missing-out-requires c).Else-spoilt-count),
+  c.first_spoilt-spoilt.ensures.linked (clean (goal.at.first_missing-out-requires c).Else-spoilt-count),
+)
 
 pub returns-then-is_none : goal.returns-then-is_none
 returns-then-is_none c =
-    let k = c in
-    let s = c in
     sym
-    (judged-right s.args.cat s.args.cells.now _ s.requires (listed_keys s.args.low.now s.args.high.now)
-    (judged-sound s.args.cat s.args.cells.now _ s.requires (listed_keys s.args.low.now s.args.high.now) (all-good (goal.at.returns-then-is_none k).Else-spoilt-count)) (omega (arith, c.if-count-eq0.false, c.list_length-count.ensures))
-    (judged-rest s.args.cat s.args.cells.now _ s.requires (listed_keys s.args.low.now s.args.high.now) (all-good (goal.at.returns-then-is_none k).Else-spoilt-count)) (sym c.first_missing-out.ensures ∙ eqb-true _ _ (sym c.is_none.ensures ∙ c.if-is_none.true)))
+    (judged-right c.args.cat c.args.cells.now _ c.requires (listed_keys c.args.low.now c.args.high.now)
+    (judged-sound c.args.cat c.args.cells.now _ c.requires (listed_keys c.args.low.now c.args.high.now) (all-good (goal.at.returns-then-is_none c).Else-spoilt-count)) (omega (arith, c.if-count-eq0.false, c.list_length-count.ensures))
+    (judged-rest c.args.cat c.args.cells.now _ c.requires (listed_keys c.args.low.now c.args.high.now) (all-good (goal.at.returns-then-is_none c).Else-spoilt-count)) (sym c.first_missing-out.ensures ∙ eqb-true _ _ (sym c.is_none.ensures ∙ c.if-is_none.true)))
 
 pub returns : goal.returns
 returns c =
-    let k = c in
-    let s = c in
     c.not_listed.ensures
     ∙ sym
-    (judged-missing s.args.cat s.args.cells.now _ s.requires (listed_keys s.args.low.now s.args.high.now)
-    (judged-sound s.args.cat s.args.cells.now _ s.requires (listed_keys s.args.low.now s.args.high.now) (all-good (goal.at.returns k).Else-spoilt-count)) (omega (arith, c.if-count-eq0.false, c.list_length-count.ensures))
-    (judged-rest s.args.cat s.args.cells.now _ s.requires (listed_keys s.args.low.now s.args.high.now) (all-good (goal.at.returns k).Else-spoilt-count)) _ c.first_missing-out.ensures
+    (judged-missing c.args.cat c.args.cells.now _ c.requires (listed_keys c.args.low.now c.args.high.now)
+    (judged-sound c.args.cat c.args.cells.now _ c.requires (listed_keys c.args.low.now c.args.high.now) (all-good (goal.at.returns c).Else-spoilt-count)) (omega (arith, c.if-count-eq0.false, c.list_length-count.ensures))
+    (judged-rest c.args.cat c.args.cells.now _ c.requires (listed_keys c.args.low.now c.args.high.now) (all-good (goal.at.returns c).Else-spoilt-count)) _ c.first_missing-out.ensures
     (eqb-false _ _ (sym c.is_none.ensures ∙ c.if-is_none.false)))

@@ -21,19 +21,16 @@ row_at-first-requires c = (lawful-all _ _ c.requires.0, omega (arith, c.total_ro
 
 pub with_row-alone-requires : goal.with_row-alone-requires
 with_row-alone-requires c =
-    let s = c in
-    let x = place-there s.args.cat s.args.cells.now 0 (omega (arith, c.total_rows-total.ensures, c.if-total-eq0.false)) in
-    rw c.row_at-first.ensures (omega (arith, x.table, s.requires.0.tables), row_small _ _ s.requires.0 _ _ x)
+    let x = place-there c.args.cat c.args.cells.now 0 (omega (arith, c.total_rows-total.ensures, c.if-total-eq0.false)) in
+    rw c.row_at-first.ensures (omega (arith, x.table, c.requires.0.tables), row_small _ _ c.requires.0 _ _ x)
 
 pub extend-g-requires : goal.extend-g-requires
 extend-g-requires c =
-    let s = c in
-    let x = place-there s.args.cat s.args.cells.now 0 (omega (arith, c.total_rows-total.ensures, c.if-total-eq0.false)) in
-    (s.requires.0, s.requires.1, rw (c.with_row-alone.ensures, c.none-none.ensures, c.row_at-first.ensures) (alone-named _ _ _ x (row_small _ _ s.requires.0 _ _ x)))
+    let x = place-there c.args.cat c.args.cells.now 0 (omega (arith, c.total_rows-total.ensures, c.if-total-eq0.false)) in
+    (c.requires.0, c.requires.1, rw (c.with_row-alone.ensures, c.none-none.ensures, c.row_at-first.ensures) (alone-named _ _ _ x (row_small _ _ c.requires.0 _ _ x)))
 
 pub returns : goal.returns
 returns c =
-    let s = c in
-    let h : 0 < total s.args.cat = omega (arith, c.total_rows-total.ensures, c.if-total-eq0.false) in
-    let g = rw (c.with_row-alone.ensures, c.none-none.ensures, c.row_at-first.ensures, first_alone s.args.cat s.args.cells.now _ s.requires.0 h) at c.extend-g.ensures in
-    c.not_listed.ensures ∙ ap (λ (x : ℕ). Missing (key_with x)) g.key ∙ sym (none-missing _ _ _ s.requires.0 h)
+    let h : 0 < total c.args.cat = omega (arith, c.total_rows-total.ensures, c.if-total-eq0.false) in
+    let g = rw (c.with_row-alone.ensures, c.none-none.ensures, c.row_at-first.ensures, first_alone c.args.cat c.args.cells.now _ c.requires.0 h) at c.extend-g.ensures in
+    c.not_listed.ensures ∙ ap (λ (x : ℕ). Missing (key_with x)) g.key ∙ sym (none-missing _ _ _ c.requires.0 h)

@@ -12,9 +12,8 @@ returns-then-d-lt-BITS_IN_LOW c = c.bit_of.ensures ∙ sym (bit-first bits_in_lo
 
 pub returns : goal.returns
 returns c =
-    let s = c in
-    let u = s.args.d - bits_in_low in
-    let e : bits_in_low + u ≡ s.args.d = omega arith in
+    let u = c.args.d - bits_in_low in
+    let e : bits_in_low + u ≡ c.args.d = omega arith in
     c.bit_of-2.ensures
-    ∙ sym (bit-second bits_in_low bits_per_word s.args.key.low s.args.key.high u (omega arith))
-    ∙ ap (bit_of (number_of s.args.key)) e
+    ∙ sym (bit-second bits_in_low bits_per_word c.args.key.low c.args.key.high u (omega arith))
+    ∙ ap (bit_of (number_of c.args.key)) e

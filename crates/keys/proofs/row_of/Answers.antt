@@ -12,9 +12,8 @@ returns-then-t-lt-TABLES_IN_LOW c = c.row_in.ensures ∙ sym (row_first bits_per
 
 pub returns : goal.returns
 returns c =
-    let s = c in
-    let u = s.args.t - tables_in_low in
-    let e : tables_in_low + u ≡ s.args.t = omega arith in
+    let u = c.args.t - tables_in_low in
+    let e : tables_in_low + u ≡ c.args.t = omega arith in
     c.row_in-2.ensures
-    ∙ sym (row-second bits_per_row tables_in_low bits_per_word s.args.key.low s.args.key.high u (omega arith))
-    ∙ ap (row_of bits_per_row (number_of s.args.key)) e
+    ∙ sym (row-second bits_per_row tables_in_low bits_per_word c.args.key.low c.args.key.high u (omega arith))
+    ∙ ap (row_of bits_per_row (number_of c.args.key)) e

@@ -10,15 +10,13 @@ use Rattle.keys.proofs.with_row.Goals as goal
 
 pub returns-then-t-lt-TABLES_IN_LOW : goal.returns-then-t-lt-TABLES_IN_LOW
 returns-then-t-lt-TABLES_IN_LOW c =
-    let s = c in
-    ap (λ (x : ℕ). number_in x s.args.key.high) c.row_put.ensures
-    ∙ with_first bits_per_row tables_in_low bits_per_word s.args.key.low s.args.key.high s.args.t s.args.r c.if-t-lt-TABLES_IN_LOW.true s.requires.1
+    ap (λ (x : ℕ). number_in x c.args.key.high) c.row_put.ensures
+    ∙ with_first bits_per_row tables_in_low bits_per_word c.args.key.low c.args.key.high c.args.t c.args.r c.if-t-lt-TABLES_IN_LOW.true c.requires.1
 
 pub returns : goal.returns
 returns c =
-    let s = c in
-    let u = s.args.t - tables_in_low in
-    let e : tables_in_low + u ≡ s.args.t = omega arith in
-    ap (λ (x : ℕ). number_in s.args.key.low x) c.row_put-2.ensures
-    ∙ with_second bits_per_row tables_in_low bits_per_word s.args.key.low s.args.key.high u s.args.r (omega arith)
-    ∙ ap (λ (x : ℕ). with_row bits_per_row (number_of s.args.key) x s.args.r) e
+    let u = c.args.t - tables_in_low in
+    let e : tables_in_low + u ≡ c.args.t = omega arith in
+    ap (λ (x : ℕ). number_in c.args.key.low x) c.row_put-2.ensures
+    ∙ with_second bits_per_row tables_in_low bits_per_word c.args.key.low c.args.key.high u c.args.r (omega arith)
+    ∙ ap (λ (x : ℕ). with_row bits_per_row (number_of c.args.key) x c.args.r) e

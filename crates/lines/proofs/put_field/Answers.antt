@@ -6,7 +6,7 @@ use Rattle.lines.proofs.DecimalLaws.{decimal-few}
 use Rattle.lines.proofs.put_field.Goals as goal
 
 pub put_decimal-requires : goal.put_decimal-requires
-put_decimal-requires c = let st = c in omega (arith, st.requires, decimal-few st.args.x)
+put_decimal-requires c = omega (arith, c.requires, decimal-few c.args.x)
 
 pub returns : goal.returns
 unfolding field

@@ -11,5 +11,4 @@ put_byte-requires c = omega (arith, each-few field field-few c.args.numbers.now,
 pub returns : goal.returns
 unfolding line
 returns c =
-    let s = c in
-    placed-three (omega (arith, each-few field field-few s.args.numbers.now, s.requires)) c.put_word-behind_word.ensures c.put_fields-behind_fields.ensures c.put_byte.ensures
+    placed-three (omega (arith, each-few field field-few c.args.numbers.now, c.requires)) c.put_word-behind_word.ensures c.put_fields-behind_fields.ensures c.put_byte.ensures

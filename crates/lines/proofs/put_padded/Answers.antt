@@ -11,5 +11,4 @@ put_byte-requires c = omega (arith, values-few c.args.padded.now c.args.m c.requ
 pub returns : goal.returns
 unfolding padded_end
 returns c =
-    let s = c in
-    placed-three (omega (arith, values-few s.args.padded.now s.args.m s.requires.0, s.requires)) c.put_word-behind_bar.ensures c.put_values-behind_values.ensures c.put_byte.ensures
+    placed-three (omega (arith, values-few c.args.padded.now c.args.m c.requires.0, c.requires)) c.put_word-behind_bar.ensures c.put_values-behind_values.ensures c.put_byte.ensures

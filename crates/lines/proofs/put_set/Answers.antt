@@ -8,15 +8,13 @@ use Rattle.lines.proofs.put_set.Goals as goal
 
 pub put_padded-requires : goal.put_padded-requires
 put_padded-requires c =
-    let s = c in
-    let few = rows_few s.args.n (number_of s.args.key) in
+    let few = rows_few c.args.n (number_of c.args.key) in
     let word = c.put_word-behind_word.ensures in
-    (s.requires.1, omega (arith, few, s.requires, c.put_rows-behind_rows.ensures.next, word.next))
+    (c.requires.1, omega (arith, few, c.requires, c.put_rows-behind_rows.ensures.next, word.next))
 
 pub returns : goal.returns
 unfolding set_line
 returns c =
-    let s = c in
     let word = c.put_word-behind_word.ensures in
     let rows = c.put_rows-behind_rows.ensures in
-    placed-three (omega (arith, rows_few s.args.n (number_of s.args.key), s.requires)) word rows c.put_padded.ensures
+    placed-three (omega (arith, rows_few c.args.n (number_of c.args.key), c.requires)) word rows c.put_padded.ensures

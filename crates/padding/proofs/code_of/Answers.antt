@@ -6,14 +6,12 @@ use Rattle.padding.proofs.code_of.Goals as goal
 
 pub row_start-start-requires : goal.row_start-start-requires
 row_start-start-requires c =
-    let s = c in
-    (lawful-all s.args.cat _ s.requires.0, s.requires.1, s.requires.3, s.requires.2)
+    (lawful-all c.args.cat _ c.requires.0, c.requires.1, c.requires.3, c.requires.2)
 
 pub code_at-requires : goal.code_at-requires
 code_at-requires c =
-    let s = c in
-    let t : There s.args.cat s.args.t s.args.r = record { table = s.requires.1; low = s.requires.2; high = s.requires.3 } in
-    rw c.row_start-start.ensures (row_room s.args.cat _ s.requires.0 _ _ t, s.requires.4, s.requires.5)
+    let t : There c.args.cat c.args.t c.args.r = record { table = c.requires.1; low = c.requires.2; high = c.requires.3 } in
+    rw c.row_start-start.ensures (row_room c.args.cat _ c.requires.0 _ _ t, c.requires.4, c.requires.5)
 
 pub returns : goal.returns
 returns c = rw (← c.row_start-start.ensures) c.code_at.ensures

@@ -14,15 +14,13 @@ loop-a-init c = (omega arith, omega arith, λ u l. absurd (omega arith))
 
 pub returns-then-not-code_kept : goal.returns-then-not-code_kept
 returns-then-not-code_kept c =
-    let asked = c in
-    let at-loop = asked in
-    sym (covering-bad _ _ at-loop.loop-a.a (sym asked.code_kept.ensures ∙ not-true _ c.if-not-code_kept.true-raw))
+    let at-loop = c in
+    sym (covering-bad _ _ at-loop.loop-a.a (sym c.code_kept.ensures ∙ not-true _ c.if-not-code_kept.true-raw))
 
 pub loop-a-preserved : goal.loop-a-preserved
 loop-a-preserved c =
-    let asked = c in
-    let at-loop = asked in
-    (omega arith, at-loop.loop-a.invariant.1, below_more _ _ at-loop.loop-a.invariant.2 (sym asked.code_kept.ensures ∙ not-false _ c.if-not-code_kept.false-raw))
+    let at-loop = c in
+    (omega arith, at-loop.loop-a.invariant.1, below_more _ _ at-loop.loop-a.invariant.2 (sym c.code_kept.ensures ∙ not-false _ c.if-not-code_kept.false-raw))
 
 pub returns : goal.returns
 returns c =

@@ -14,18 +14,14 @@ loop-a-init c = (omega arith, refl, refl)
 
 pub loop-a-preserved : goal.loop-a-preserved
 loop-a-preserved c =
-    let l = c in
-    let s = l in
-    let row = padded_row s.args.cat s.args.cells.now (number_of s.args.key) in
-    let e = pad-more s.args.cat s.args.cells.now (number_of s.args.key) l.loop-a.a (omega arith) in (
+    let row = padded_row c.args.cat c.args.cells.now (number_of c.args.key) in
+    let e = pad-more c.args.cat c.args.cells.now (number_of c.args.key) c.loop-a.a (omega arith) in (
       omega arith,
-      simp length-set l.loop-a.invariant.1,
-      l.loop-a.invariant.2 ∙ rw (e, ← c.code_at.ensures) (put-cons l.loop-a.padded l.loop-a.a c.code_at.result (drop (l.loop-a.a + 1) row) (omega arith)),
+      simp length-set c.loop-a.invariant.1,
+      c.loop-a.invariant.2 ∙ rw (e, ← c.code_at.ensures) (put-cons c.loop-a.padded c.loop-a.a c.code_at.result (drop (c.loop-a.a + 1) row) (omega arith)),
     )
 
 pub returns : goal.returns
 returns c =
-    let l = c in
-    let s = l in
-    let e = pad-none s.args.cat s.args.cells.now (number_of s.args.key) l.loop-a.a (omega arith) in
-    sym (l.loop-a.invariant.2 ∙ rw e (put-nil l.loop-a.padded l.loop-a.a))
+    let e = pad-none c.args.cat c.args.cells.now (number_of c.args.key) c.loop-a.a (omega arith) in
+    sym (c.loop-a.invariant.2 ∙ rw e (put-nil c.loop-a.padded c.loop-a.a))

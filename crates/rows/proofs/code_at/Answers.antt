@@ -9,7 +9,7 @@ use Rattle.rows.proofs.code_at.Goals as goal
 
 -- the cell is there
 inside : (c : After-rank) → c.args.start + c.rank.result < length c.args.cells.now
-inside c = let s = c in rw c.rank.ensures (code_inside _ _ _ _ s.requires.0 s.requires.2)
+inside c = rw c.rank.ensures (code_inside _ _ _ _ c.requires.0 c.requires.2)
 
 pub overflow_add-result : goal.overflow_add-result
 overflow_add-result c = omega (arith, inside c)
@@ -21,4 +21,4 @@ pub bounds-cells-start : goal.bounds-cells-start
 bounds-cells-start c = inside (goal.at.bounds-cells-start c).After-rank
 
 pub returns : goal.returns
-returns c = let s = c in ap (λ (x : ℕ). get_or s.args.cells.now (s.args.start + x) 0) c.rank.ensures
+returns c = ap (λ (x : ℕ). get_or c.args.cells.now (c.args.start + x) 0) c.rank.ensures

@@ -33,29 +33,21 @@ returns-then-same c =
 
 pub returns-then-spare : goal.returns-then-spare
 returns-then-spare c =
-    let s = c in
-    sym (named-spare s.args.cat _ s.requires.tables (leb-true _ _ (sym c.spare.ensures ∙ c.if-spare.true)))
+    sym (named-spare c.args.cat _ c.requires.tables (leb-true _ _ (sym c.spare.ensures ∙ c.if-spare.true)))
 
 pub loop-t-init : goal.loop-t-init
 loop-t-init c = (omega arith, λ u l. absurd (omega arith))
 
 pub returns-then-rows_there-row_of : goal.returns-then-rows_there-row_of
 returns-then-rows_there-row_of c =
-    let r = c in
-    let l = r in
-    let s = l in
-    sym (named-bad s.args.cat (number_of s.args.key) l.loop-t.t (rw (← r.rows_there.ensures, ← r.row_of.ensures) c.if-rows_there-row_of.true))
+    sym (named-bad c.args.cat (number_of c.args.key) c.loop-t.t (rw (← c.rows_there.ensures, ← c.row_of.ensures) c.if-rows_there-row_of.true))
 
 pub loop-t-preserved : goal.loop-t-preserved
 loop-t-preserved c =
-    let r = c in
-    let l = r in
-    (omega arith, below_more _ _ l.loop-t.invariant.1 (rw (← r.rows_there.ensures, ← r.row_of.ensures) (omega (arith, c.if-rows_there-row_of.false))))
+    (omega arith, below_more _ _ c.loop-t.invariant.1 (rw (← c.rows_there.ensures, ← c.row_of.ensures) (omega (arith, c.if-rows_there-row_of.false))))
 
 pub returns : goal.returns
 returns c =
-    let l = c in
-    let s = l in
     sym
-    (named-good s.args.cat _ (some (goal.at.returns l).Else-same) (plain (goal.at.returns l).Else-spare) s.requires.tables
-    (λ t b. l.loop-t.invariant.1 t (omega (arith, c.loop-t-test.false))))
+    (named-good c.args.cat _ (some (goal.at.returns c).Else-same) (plain (goal.at.returns c).Else-spare) c.requires.tables
+    (λ t b. c.loop-t.invariant.1 t (omega (arith, c.loop-t-test.false))))

@@ -6,7 +6,7 @@ pub tables_in-tables-requires : goal.tables_in-tables-requires
 tables_in-tables-requires c = lawful-all _ _ c.requires.0
 
 pub extended-requires : goal.extended-requires
-extended-requires c = let s = c in (s.requires.0, s.requires.1, s.requires.2, c.tables_in-tables.ensures)
+extended-requires c = (c.requires.0, c.requires.1, c.requires.2, c.tables_in-tables.ensures)
 
 pub returns : goal.returns
 returns c = c.extended.ensures

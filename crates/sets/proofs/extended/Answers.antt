@@ -36,8 +36,7 @@ use Rattle.sets.proofs.extended.Goals as goal
 both : (a : After-lowest-t)
     → (bit_of a.loop-live.live a.lowest-t.result ≡ true) × (bit_of a.rounds.reach a.lowest-t.result ≡ true)
 both a =
-    let l = a in
-    and_split _ _ (sym (bit-and l.loop-live.live l.rounds.reach a.lowest-t.result) ∙ a.lowest-t.ensures.itself)
+    and_split _ _ (sym (bit-and a.loop-live.live a.rounds.reach a.lowest-t.result) ∙ a.lowest-t.ensures.itself)
 
 turn : (a : After-lowest-t) → a.lowest-t.result < a.args.cat.n
 turn a = a.loop-live.invariant.0.tables _ (both a).0
@@ -47,7 +46,7 @@ eight a = omega (arith, turn a, a.requires.0.tables)
 
 -- and what is read of it is small
 small : (a : After-lowest-t) → Small a.args.cat a.args.layout a.lowest-t.result
-small a = let s = a in laid-small s.args.cat _ s.requires.0 s.args.cells.now _ s.requires.1 _ (turn a)
+small a = laid-small a.args.cat _ a.requires.0 a.args.cells.now _ a.requires.1 _ (turn a)
 
 -- the bit of the table
 bit : (a : After-lowest-t) → 1 * 2 ^ a.lowest-t.result % 2 ^ 64 ≡ 2 ^ a.lowest-t.result
@@ -59,7 +58,7 @@ fewer a = rw (bit a) (less-lt _ _ (both a).0)
 
 -- the tests of the rounds so far
 few : (l : At-loop-live) → l.rounds.tests ≤ most_tests
-few l = let s = l in growing-few s.args.cat s.args.cells.now _ s.requires.0 _ s.requires.2 _ _ _ _ l.rounds.invariant.0
+few l = growing-few l.args.cat l.args.cells.now _ l.requires.0 _ l.requires.2 _ _ _ _ l.rounds.invariant.0
 
 -- the answer is the first of its rows that the row test admits
 looked : (f : After-first_fit-i)
@@ -67,12 +66,9 @@ looked : (f : After-first_fit-i)
     (tested f.args.cat f.args.cells.now (number_of f.rounds.key) f.lowest-t.result)
     f.first_fit-i.result
 looked f =
-    let a = f in
-    let l = a in
-    let s = l in
-    let v = l.rounds.invariant in
-    open-first s.args.cat s.args.cells.now _ _ l.loop-live.invariant.0 _ s.requires.0 _ _ (both (goal.at-After-first_fit-i a).After-lowest-t).0 (both (goal.at-After-first_fit-i a).After-lowest-t).1 v.2 _ _ v.0.merged _ _
-    (s.requires.0.places _ (turn (goal.at-After-first_fit-i a).After-lowest-t)) f.first_fit-i.ensures
+    let v = f.rounds.invariant in
+    open-first f.args.cat f.args.cells.now _ _ f.loop-live.invariant.0 _ f.requires.0 _ _ (both (goal.at-After-first_fit-i f).After-lowest-t).0 (both (goal.at-After-first_fit-i f).After-lowest-t).1 v.2 _ _ v.0.merged _ _
+    (f.requires.0.places _ (turn (goal.at-After-first_fit-i f).After-lowest-t)) f.first_fit-i.ensures
 
 -- a row that was found is there
 there : (t : Then-i-count)
@@ -80,7 +76,7 @@ there : (t : Then-i-count)
 there t = record { table = turn (goal.at-Then-i-count t).After-lowest-t; low = omega arith; high = omega (arith, t.if-i-count.true) }
 
 pub merge_set-touch-requires : goal.merge_set-touch-requires
-merge_set-touch-requires c = let s = c in (s.requires.0, s.requires.1, s.requires.2, s.requires.3, refl)
+merge_set-touch-requires c = (c.requires.0, c.requires.1, c.requires.2, c.requires.3, refl)
 
 pub overflow_shl-live : goal.overflow_shl-live
 overflow_shl-live c = omega (arith, c.requires.0.tables)
@@ -95,10 +91,7 @@ overflow_sub-live c = rw (above c) (pow_pos _)
 
 pub rounds-init : goal.rounds-init
 rounds-init c =
-    let k = c in
-    let m = k in
-    let s = m in
-    (growing-start _ _ _ s.requires.0 _ s.requires.2 _ _ m.merge_set-touch.ensures.0, shut-start _ _ _ _ _ (above (goal.at.rounds-init k).After-key-1) s.requires.3, m.merge_set-touch.ensures.1)
+    (growing-start _ _ _ c.requires.0 _ c.requires.2 _ _ c.merge_set-touch.ensures.0, shut-start _ _ _ _ _ (above (goal.at.rounds-init c).After-key-1) c.requires.3, c.merge_set-touch.ensures.1)
 
 pub loop-live-init : goal.loop-live-init
 loop-live-init c = (c.rounds.invariant.1, omega arith)
@@ -134,48 +127,41 @@ pub bounds-cat-t-in-loop-live-2 : goal.bounds-cat-t-in-loop-live-2
 bounds-cat-t-in-loop-live-2 c = omega (arith, eight (goal.at.bounds-cat-t-in-loop-live-2 c).After-lowest-t)
 
 pub overflow_cast-count : goal.overflow_cast-count
-overflow_cast-count c = let a = c in omega (arith, a.requires.0.rows _ (turn (goal.at.overflow_cast-count a).After-lowest-t))
+overflow_cast-count c = omega (arith, c.requires.0.rows _ (turn (goal.at.overflow_cast-count c).After-lowest-t))
 
 pub bit_of-rises-requires : goal.bit_of-rises-requires
 bit_of-rises-requires c = omega (arith, eight (goal.at.bit_of-rises-requires c).After-lowest-t)
 
 pub first_fit-i-requires : goal.first_fit-i-requires
 first_fit-i-requires c =
-    let a = c in
-    let l = a in
-    let s = l in
-    let v = l.rounds.invariant in
-    let b = s.requires.0.places _ (turn (goal.at.first_fit-i-requires a).After-lowest-t) in
-    let n = open-shares s.args.cat s.args.cells.now _ _ l.loop-live.invariant.0 _ s.requires.0 _ _ (both (goal.at.first_fit-i-requires a).After-lowest-t).0 (both (goal.at.first_fit-i-requires a).After-lowest-t).1 v.2 _ _ v.0.merged in (
-      s.requires.1.wide _ (turn (goal.at.first_fit-i-requires a).After-lowest-t),
-      rw b (omega (arith, table-ends s.args.cat _ (turn (goal.at.first_fit-i-requires a).After-lowest-t), s.requires.0.room)),
+    let v = c.rounds.invariant in
+    let b = c.requires.0.places _ (turn (goal.at.first_fit-i-requires c).After-lowest-t) in
+    let n = open-shares c.args.cat c.args.cells.now _ _ c.loop-live.invariant.0 _ c.requires.0 _ _ (both (goal.at.first_fit-i-requires c).After-lowest-t).0 (both (goal.at.first_fit-i-requires c).After-lowest-t).1 v.2 _ _ v.0.merged in (
+      c.requires.1.wide _ (turn (goal.at.first_fit-i-requires c).After-lowest-t),
+      rw b (omega (arith, table-ends c.args.cat _ (turn (goal.at.first_fit-i-requires c).After-lowest-t), c.requires.0.room)),
       shared-under _ _,
       omega (arith, n),
-      λ h. rw b (s.requires.1.rising _ (turn (goal.at.first_fit-i-requires a).After-lowest-t) (sym c.bit_of-rises.ensures ∙ h)),
+      λ h. rw b (c.requires.1.rising _ (turn (goal.at.first_fit-i-requires c).After-lowest-t) (sym c.bit_of-rises.ensures ∙ h)),
     )
 
 pub overflow_shl-live-in-loop-live : goal.overflow_shl-live-in-loop-live
 overflow_shl-live-in-loop-live c = omega (arith, eight (goal.at.overflow_shl-live-in-loop-live c).After-lowest-t)
 
 pub overflow_sub-live-in-loop-live : goal.overflow_sub-live-in-loop-live
-overflow_sub-live-in-loop-live c = let a = c in rw (bit (goal.at.overflow_sub-live-in-loop-live a).After-lowest-t) (less-bit _ _ (both (goal.at.overflow_sub-live-in-loop-live a).After-lowest-t).0).0
+overflow_sub-live-in-loop-live c = rw (bit (goal.at.overflow_sub-live-in-loop-live c).After-lowest-t) (less-bit _ _ (both (goal.at.overflow_sub-live-in-loop-live c).After-lowest-t).0).0
 
 pub overflow_add-row : goal.overflow_add-row
-overflow_add-row c = let a = c in omega (arith, c.if-i-count.true, a.requires.0.rows _ (turn (goal.at.overflow_add-row a).After-lowest-t))
+overflow_add-row c = omega (arith, c.if-i-count.true, c.requires.0.rows _ (turn (goal.at.overflow_add-row c).After-lowest-t))
 
 pub loop-live-smaller : goal.loop-live-smaller
 loop-live-smaller c = fewer (goal.at.loop-live-smaller c).After-lowest-t
 
 pub loop-live-preserved : goal.loop-live-preserved
-loop-live-preserved c =
-    let f = c in
-    let a = f in
-    let l = a in
-    let s = l in (
-      shut-walked s.args.cat s.args.cells.now _ _ l.loop-live.invariant.0 _ s.requires.0 _ _ _ l.rounds.invariant.2 (both (goal.at.loop-live-preserved a).After-lowest-t).0 (both (goal.at.loop-live-preserved a).After-lowest-t).1 (looked (goal.at.loop-live-preserved f).After-first_fit-i)
-          (omega (arith, c.if-i-count.false)) _ (bit (goal.at.loop-live-preserved a).After-lowest-t),
-      omega (arith, fewer (goal.at.loop-live-preserved a).After-lowest-t, l.loop-live.invariant.1),
-    )
+loop-live-preserved c = (
+  shut-walked c.args.cat c.args.cells.now _ _ c.loop-live.invariant.0 _ c.requires.0 _ _ _ c.rounds.invariant.2 (both (goal.at.loop-live-preserved c).After-lowest-t).0 (both (goal.at.loop-live-preserved c).After-lowest-t).1 (looked (goal.at.loop-live-preserved c).After-first_fit-i)
+      (omega (arith, c.if-i-count.false)) _ (bit (goal.at.loop-live-preserved c).After-lowest-t),
+  omega (arith, fewer (goal.at.loop-live-preserved c).After-lowest-t, c.loop-live.invariant.1),
+)
 
 pub bounds-layout-t-in-rounds : goal.bounds-layout-t-in-rounds
 bounds-layout-t-in-rounds c = omega (arith, eight (goal.at.bounds-layout-t-in-rounds c).After-lowest-t)
@@ -199,16 +185,12 @@ pub bounds-cat-t-in-rounds-2 : goal.bounds-cat-t-in-rounds-2
 bounds-cat-t-in-rounds-2 c = omega (arith, eight (goal.at.bounds-cat-t-in-rounds-2 c).After-lowest-t)
 
 pub merge_add-attrs-requires : goal.merge_add-attrs-requires
-merge_add-attrs-requires c =
-    let t = c in
-    let a = t in
-    let l = a in
-    let s = l in (
-      s.requires.1.wide _ (turn (goal.at.merge_add-attrs-requires a).After-lowest-t),
-      omega arith,
-      rw (start_of s.args.cat a.lowest-t.result _ _ (s.requires.0.places _ (turn (goal.at.merge_add-attrs-requires a).After-lowest-t))) (row_room _ _ s.requires.0 _ _ (there (goal.at.merge_add-attrs-requires t).Then-i-count)),
-      l.rounds.invariant.0.merged.long,
-    )
+merge_add-attrs-requires c = (
+  c.requires.1.wide _ (turn (goal.at.merge_add-attrs-requires c).After-lowest-t),
+  omega arith,
+  rw (start_of c.args.cat c.lowest-t.result _ _ (c.requires.0.places _ (turn (goal.at.merge_add-attrs-requires c).After-lowest-t))) (row_room _ _ c.requires.0 _ _ (there (goal.at.merge_add-attrs-requires c).Then-i-count)),
+  c.rounds.invariant.0.merged.long,
+)
 
 pub offset_bounds-cat-t-in-rounds-3 : goal.offset_bounds-cat-t-in-rounds-3
 offset_bounds-cat-t-in-rounds-3 c = omega (arith, eight (goal.at.offset_bounds-cat-t-in-rounds-3 c).After-lowest-t)
@@ -223,8 +205,7 @@ overflow_cast-reach c =
 
 pub with_row-key-requires : goal.with_row-key-requires
 with_row-key-requires c =
-    let t = c in
-    (eight (goal.at.with_row-key-requires t).After-lowest-t, row_small _ _ t.requires.0 _ _ (there (goal.at.with_row-key-requires t).Then-i-count))
+    (eight (goal.at.with_row-key-requires c).After-lowest-t, row_small _ _ c.requires.0 _ _ (there (goal.at.with_row-key-requires c).Then-i-count))
 
 pub offset_bounds-layout-t : goal.offset_bounds-layout-t
 offset_bounds-layout-t c = omega (arith, eight (goal.at.offset_bounds-layout-t c).After-lowest-t)
@@ -235,15 +216,12 @@ bounds-layout-t-in-rounds-2 c = omega (arith, eight (goal.at.bounds-layout-t-in-
 -- what is added to the tests
 abbrev Sums : After-tests-1 → Type 0
 Sums c =
-    let f = c in
-    (f.rounds.tests ≤ most_tests) × (get_or f.args.layout.before f.lowest-t.result 0 ≤ most_total)
-    × (f.first_fit-i.result ≤ most_total)
+    (c.rounds.tests ≤ most_tests) × (get_or c.args.layout.before c.lowest-t.result 0 ≤ most_total)
+    × (c.first_fit-i.result ≤ most_total)
 
 sums : (c : After-tests-1) → Sums c
 sums c =
-    let t = c in
-    let a = t in
-    (few (goal.at-After-tests-1 a).At-loop-live, (small (goal.at-After-tests-1 a).After-lowest-t).before, omega (arith, t.if-i-count.true, a.requires.0.rows _ (turn (goal.at-After-tests-1 a).After-lowest-t)))
+    (few (goal.at-After-tests-1 c).At-loop-live, (small (goal.at-After-tests-1 c).After-lowest-t).before, omega (arith, c.if-i-count.true, c.requires.0.rows _ (turn (goal.at-After-tests-1 c).After-lowest-t)))
 
 pub overflow_cast-tests : goal.overflow_cast-tests
 overflow_cast-tests c = omega (arith, sums c)
@@ -259,38 +237,28 @@ rounds-smaller c = let a = (goal.at.rounds-smaller c).After-lowest-t in omega (a
 
 pub rounds-preserved : goal.rounds-preserved
 rounds-preserved c =
-    let m = c in
-    let t = m in
-    let f = t in
-    let a = f in
-    let l = a in
-    let s = l in
-    let v = l.rounds.invariant in
-    let o = add-one f.first_fit-i.result in
-    let z : (l.rounds.tests + get_or s.args.layout.before a.lowest-t.result 0) + suc f.first_fit-i.result
-    ≡ l.rounds.tests + (rows_before s.args.cat a.lowest-t.result + suc f.first_fit-i.result) = omega (arith, s.requires.1.before _ (turn (goal.at.rounds-preserved a).After-lowest-t)) in
-    let n = one_more _ s.args.cells.now _ s.requires.0 _ s.requires.2 _ _ _ _ _ _ v.0 (turn (goal.at.rounds-preserved a).After-lowest-t) (looked (goal.at.rounds-preserved f).After-first_fit-i) t.if-i-count.true in
+    let v = c.rounds.invariant in
+    let o = add-one c.first_fit-i.result in
+    let z : (c.rounds.tests + get_or c.args.layout.before c.lowest-t.result 0) + suc c.first_fit-i.result
+    ≡ c.rounds.tests + (rows_before c.args.cat c.lowest-t.result + suc c.first_fit-i.result) = omega (arith, c.requires.1.before _ (turn (goal.at.rounds-preserved c).After-lowest-t)) in
+    let n = one_more _ c.args.cells.now _ c.requires.0 _ c.requires.2 _ _ _ _ _ _ v.0 (turn (goal.at.rounds-preserved c).After-lowest-t) (looked (goal.at.rounds-preserved c).After-first_fit-i) c.if-i-count.true in
     rw (c.with_row-key.ensures, o, z) (
-      growing-hit _ s.args.cells.now _ s.requires.0 _ s.requires.2 _ _ _ _ _ _ v.0 (turn (goal.at.rounds-preserved a).After-lowest-t) (looked (goal.at.rounds-preserved f).After-first_fit-i) t.if-i-count.true _
-          (round-passed _ _ _ s.requires.0 _ _ _ l.loop-live.invariant.0 v.2 _ _ (turn (goal.at.rounds-preserved a).After-lowest-t) a.lowest-t.ensures) _ _
-          (rw (← o, ← start_of s.args.cat a.lowest-t.result (f.first_fit-i.result + 1) _ (s.requires.0.places _ (turn (goal.at.rounds-preserved a).After-lowest-t))) m.merge_add-attrs.ensures),
-      shut_grown s.args.cat s.args.cells.now _ _ l.loop-live.invariant.0 _ _ (both (goal.at.rounds-preserved a).After-lowest-t).0 n _ (bit (goal.at.rounds-preserved a).After-lowest-t),
+      growing-hit _ c.args.cells.now _ c.requires.0 _ c.requires.2 _ _ _ _ _ _ v.0 (turn (goal.at.rounds-preserved c).After-lowest-t) (looked (goal.at.rounds-preserved c).After-first_fit-i) c.if-i-count.true _
+          (round-passed _ _ _ c.requires.0 _ _ _ c.loop-live.invariant.0 v.2 _ _ (turn (goal.at.rounds-preserved c).After-lowest-t) c.lowest-t.ensures) _ _
+          (rw (← o, ← start_of c.args.cat c.lowest-t.result (c.first_fit-i.result + 1) _ (c.requires.0.places _ (turn (goal.at.rounds-preserved c).After-lowest-t))) c.merge_add-attrs.ensures),
+      shut_grown c.args.cat c.args.cells.now _ _ c.loop-live.invariant.0 _ _ (both (goal.at.rounds-preserved c).After-lowest-t).0 n _ (bit (goal.at.rounds-preserved c).After-lowest-t),
       gathered-add _ _ _ _ _ _ n v.2,
     )
 
 pub overflow_add-tests-2 : goal.overflow_add-tests-2
 overflow_add-tests-2 c =
-    let l = c in
-    let s = l in
-    omega (arith, few (goal.at.overflow_add-tests-2 l).At-loop-live, s.requires.1.all, rows_few s.args.cat _ s.requires.0 s.args.cat.n (omega arith))
+    omega (arith, few (goal.at.overflow_add-tests-2 c).At-loop-live, c.requires.1.all, rows_few c.args.cat _ c.requires.0 c.args.cat.n (omega arith))
 
 pub returns : goal.returns
 returns c =
-    let l = c in
-    let s = l in
-    let r = l.rounds in
-    let z : r.tests + rows_before s.args.cat s.args.cat.n ≡ r.tests + s.args.layout.total = omega (arith, s.requires.1.all) in
-    subst (λ (x : ℕ). Comes s.args.cat (extension (world_of s.args.cat s.args.cells.now) (set_of s.args.cat (number_of s.args.from.key)))
+    let r = c.rounds in
+    let z : r.tests + rows_before c.args.cat c.args.cat.n ≡ r.tests + c.args.layout.total = omega (arith, c.requires.1.all) in
+    subst (λ (x : ℕ). Comes c.args.cat (extension (world_of c.args.cat c.args.cells.now) (set_of c.args.cat (number_of c.args.from.key)))
     (number_of r.key) x) z
-    (growing-end _ _ _ s.requires.0 _ s.requires.2 _ _ _ _ _ r.invariant.0
-    (round-over _ _ _ s.requires.0 _ _ _ l.loop-live.invariant.0 r.invariant.2 c.if-live-reach-eq0.true))
+    (growing-end _ _ _ c.requires.0 _ c.requires.2 _ _ _ _ _ r.invariant.0
+    (round-over _ _ _ c.requires.0 _ _ _ c.loop-live.invariant.0 r.invariant.2 c.if-live-reach-eq0.true))

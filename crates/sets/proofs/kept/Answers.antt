@@ -14,26 +14,21 @@ parted-gone-requires c = c.requires
 
 pub with_row-requires : goal.with_row-requires
 with_row-requires c =
-    let s = c in
-    (omega (arith, s.requires.4.table, s.requires.0.tables), row_small _ _ s.requires.0 _ _ s.requires.4)
+    (omega (arith, c.requires.4.table, c.requires.0.tables), row_small _ _ c.requires.0 _ _ c.requires.4)
 
 pub without-requires : goal.without-requires
 without-requires c =
-    let p = c in
-    let s = p in
-    gone-few s.args.cat s.args.cells.now _ s.requires.0 (set_of s.args.cat (number_of s.args.held.key)) (in-length bits_per_row _ _)
-    (place_of s.args.x) s.requires.4 _ s.requires.3 _ p.parted-gone.ensures
+    gone-few c.args.cat c.args.cells.now _ c.requires.0 (set_of c.args.cat (number_of c.args.held.key)) (in-length bits_per_row _ _)
+    (place_of c.args.x) c.requires.4 _ c.requires.3 _ c.parted-gone.ensures
 
 pub returns : goal.returns
 returns c =
-    let p = c in
-    let s = p in
-    let T = set_of s.args.cat (number_of s.args.held.key) in
-    rw (gone-dropped s.args.cat s.args.cells.now _ s.requires.0 T (in-length bits_per_row _ _) (place_of s.args.x) s.requires.4 _ s.requires.3 _
-    p.parted-gone.ensures)
+    let T = set_of c.args.cat (number_of c.args.held.key) in
+    rw (gone-dropped c.args.cat c.args.cells.now _ c.requires.0 T (in-length bits_per_row _ _) (place_of c.args.x) c.requires.4 _ c.requires.3 _
+    c.parted-gone.ensures)
     (c.without.ensures _ _
-    (added-set s.args.cat _ s.requires.0 (number_of s.args.held.key) _ s.requires.2 s.requires.3 (place_of s.args.x) s.requires.4 _ _
+    (added-set c.args.cat _ c.requires.0 (number_of c.args.held.key) _ c.requires.2 c.requires.3 (place_of c.args.x) c.requires.4 _ _
     c.with_row.ensures
-    (one_shl _ (omega (arith, s.requires.4.table, s.requires.0.tables))))
-    (gone-under s.args.cat s.args.cells.now _ s.requires.0 T (in-length bits_per_row _ _) (place_of s.args.x) s.requires.4 _ s.requires.3 _
-    p.parted-gone.ensures _))
+    (one_shl _ (omega (arith, c.requires.4.table, c.requires.0.tables))))
+    (gone-under c.args.cat c.args.cells.now _ c.requires.0 T (in-length bits_per_row _ _) (place_of c.args.x) c.requires.4 _ c.requires.3 _
+    c.parted-gone.ensures _))

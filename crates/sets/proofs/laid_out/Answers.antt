@@ -16,6 +16,5 @@ rising_tables-rising-requires c = (c.requires, c.measured-layout.ensures _)
 
 pub returns : goal.returns
 returns c =
-    let s = c in
-    let l = c.measured-layout.ensures s.args.cells.now in
+    let l = c.measured-layout.ensures c.args.cells.now in
     record { before = l.before; wide = l.wide; all = l.all; rising = c.rising_tables-rising.ensures }

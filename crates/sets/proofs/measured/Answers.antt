@@ -15,20 +15,17 @@ use Rattle.sets.proofs.measured.Goals as goal
 -- table t is there, and the sum with its rows is no larger than that of all tables
 abbrev Ends : In-loop-t → Type 0
 Ends c =
-    let l = c in
-    let cat = l.args.cat in
-    (l.loop-t.t < cat.n) × (l.loop-t.t < most_tables) × (l.loop-t.total + count_of cat l.loop-t.t ≤ most_total) × (width cat l.loop-t.t ≤ 64)
+    let cat = c.args.cat in
+    (c.loop-t.t < cat.n) × (c.loop-t.t < most_tables) × (c.loop-t.total + count_of cat c.loop-t.t ≤ most_total) × (width cat c.loop-t.t ≤ 64)
 
 ends : (c : In-loop-t) → Ends c
 ends c =
-    let l = c in
-    let s = l in
-    let b : l.loop-t.t < s.args.cat.n = c.loop-t-test.true in
-    let e = rows_few s.args.cat _ s.requires (l.loop-t.t + 1) (omega (arith, b)) in (
+    let b : c.loop-t.t < c.args.cat.n = c.loop-t-test.true in
+    let e = rows_few c.args.cat _ c.requires (c.loop-t.t + 1) (omega (arith, b)) in (
       b,
-      omega (arith, b, s.requires.tables),
-      omega (arith, l.loop-t.invariant.1, rows_next s.args.cat l.loop-t.t, e),
-      ones-le 64 _ (scheme-narrow s.args.cat _ s.requires l.loop-t.t b),
+      omega (arith, b, c.requires.tables),
+      omega (arith, c.loop-t.invariant.1, rows_next c.args.cat c.loop-t.t, e),
+      ones-le 64 _ (scheme-narrow c.args.cat _ c.requires c.loop-t.t b),
     )
 
 pub loop-t-init : goal.loop-t-init
@@ -58,23 +55,20 @@ loop-t-smaller c = omega (arith, ends (goal.at.loop-t-smaller c).In-loop-t)
 
 pub loop-t-preserved : goal.loop-t-preserved
 loop-t-preserved c =
-    let i = c in
-    let l = i in
-    let cat = l.args.cat in
-    let v = l.loop-t.invariant in
-    let b = ends (goal.at.loop-t-preserved i).In-loop-t in (
+    let cat = c.args.cat in
+    let v = c.loop-t.invariant in
+    let b = ends (goal.at.loop-t-preserved c).In-loop-t in (
       omega (arith, b.0),
-      rw (rows_next cat l.loop-t.t, ← v.1),
-      entered-next (rows_before cat) _ l.loop-t.t _ b.1 v.1 v.2,
-      entered-next (width cat) _ l.loop-t.t _ b.1 c.width.ensures v.3,
+      rw (rows_next cat c.loop-t.t, ← v.1),
+      entered-next (rows_before cat) _ c.loop-t.t _ b.1 v.1 v.2,
+      entered-next (width cat) _ c.loop-t.t _ b.1 c.width.ensures v.3,
     )
 
 pub returns : goal.returns
 returns c cells =
-    let l = c in
-    let cat = l.args.cat in
-    let v = l.loop-t.invariant in
-    let e : l.loop-t.t ≡ cat.n = omega (arith, v.0, c.loop-t-test.false) in
+    let cat = c.args.cat in
+    let v = c.loop-t.invariant in
+    let e : c.loop-t.t ≡ cat.n = omega (arith, v.0, c.loop-t-test.false) in
     record {
       before = λ t b. v.2.below t (omega (arith, b, e));
       wide = λ t b. v.3.below t (omega (arith, b, e));

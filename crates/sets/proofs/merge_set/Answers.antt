@@ -24,26 +24,23 @@ use Rattle.sets.proofs.merge_set.Goals as goal
 -- the table of the next row is one of the set's
 listed : (a : After-lowest-u) → Member (set_of a.args.cat (number_of a.args.held.key)) a.lowest-u.result
 listed a =
-    let s = a in
-    tables-has _ _ s.requires.3 _ (a.loop-rest.invariant.0 _ a.lowest-u.ensures.itself)
+    tables-has _ _ a.requires.3 _ (a.loop-rest.invariant.0 _ a.lowest-u.ensures.itself)
 
 turn : (a : After-lowest-u) → a.lowest-u.result < a.args.cat.n
 turn a =
-    let s = a in
-    rw (in-length bits_per_row s.args.cat.n (number_of s.args.held.key)) at
-    (tables-lt (set_of s.args.cat (number_of s.args.held.key)) _ s.requires.3 _ (a.loop-rest.invariant.0 _ a.lowest-u.ensures.itself))
+    rw (in-length bits_per_row a.args.cat.n (number_of a.args.held.key)) at
+    (tables-lt (set_of a.args.cat (number_of a.args.held.key)) _ a.requires.3 _ (a.loop-rest.invariant.0 _ a.lowest-u.ensures.itself))
 
 eight : (a : After-lowest-u) → a.lowest-u.result < most_tables
 eight a = omega (arith, turn a, a.requires.0.tables)
 
 small : (a : After-lowest-u) → Small a.args.cat a.args.layout a.lowest-u.result
-small a = let s = a in laid-small s.args.cat _ s.requires.0 s.args.cells.now _ s.requires.1 _ (turn a)
+small a = laid-small a.args.cat _ a.requires.0 a.args.cells.now _ a.requires.1 _ (turn a)
 
 pub loop-rest-init : goal.loop-rest-init
 loop-rest-init c =
-    let s = c in
-    let z = lacking-all (set_of s.args.cat (number_of s.args.held.key)) _ s.requires.3 in
-    (λ u b. b, merged-none _ _ _ _ s.requires.4 z, gathered_none _ _ z)
+    let z = lacking-all (set_of c.args.cat (number_of c.args.held.key)) _ c.requires.3 in
+    (λ u b. b, merged-none _ _ _ _ c.requires.4 z, gathered_none _ _ z)
 
 pub bounds-layout-u : goal.bounds-layout-u
 bounds-layout-u c = omega (arith, eight c)
@@ -71,28 +68,23 @@ bounds-cat-u-in-loop-rest c = omega (arith, eight (goal.at.bounds-cat-u-in-loop-
 
 own : (q : After-row_of-r) → at (set_of q.args.cat (number_of q.args.held.key)) q.lowest-u.result ≡ q.row_of-r.result
 own q =
-    let s = q in
-    in-at bits_per_row s.args.cat.n (number_of s.args.held.key) _ (turn (goal.at-After-row_of-r q).After-lowest-u) ∙ sym q.row_of-r.ensures
+    in-at bits_per_row q.args.cat.n (number_of q.args.held.key) _ (turn (goal.at-After-row_of-r q).After-lowest-u) ∙ sym q.row_of-r.ensures
 
 there : (q : After-row_of-r) → There q.args.cat q.lowest-u.result q.row_of-r.result
 there q =
-    let s = q in
     record {
       table = turn (goal.at-After-row_of-r q).After-lowest-u;
       low = omega (arith, own q, listed (goal.at-After-row_of-r q).After-lowest-u);
-      high = omega (arith, q.row_of-r.ensures, s.requires.2.rows _ (turn (goal.at-After-row_of-r q).After-lowest-u));
+      high = omega (arith, q.row_of-r.ensures, q.requires.2.rows _ (turn (goal.at-After-row_of-r q).After-lowest-u));
     }
 
 pub merge_add-attrs-requires : goal.merge_add-attrs-requires
-merge_add-attrs-requires c =
-    let q = c in
-    let a = q in
-    let s = a in (
-      s.requires.1.wide _ (turn (goal.at.merge_add-attrs-requires a).After-lowest-u),
-      (there (goal.at.merge_add-attrs-requires q).After-row_of-r).low,
-      rw (start_of s.args.cat a.lowest-u.result _ _ (s.requires.0.places _ (turn (goal.at.merge_add-attrs-requires a).After-lowest-u))) (row_room _ _ s.requires.0 _ _ (there (goal.at.merge_add-attrs-requires q).After-row_of-r)),
-      a.loop-rest.invariant.1.long,
-    )
+merge_add-attrs-requires c = (
+  c.requires.1.wide _ (turn (goal.at.merge_add-attrs-requires c).After-lowest-u),
+  (there (goal.at.merge_add-attrs-requires c).After-row_of-r).low,
+  rw (start_of c.args.cat c.lowest-u.result _ _ (c.requires.0.places _ (turn (goal.at.merge_add-attrs-requires c).After-lowest-u))) (row_room _ _ c.requires.0 _ _ (there (goal.at.merge_add-attrs-requires c).After-row_of-r)),
+  c.loop-rest.invariant.1.long,
+)
 
 pub offset_bounds-cat-u-in-loop-rest-2 : goal.offset_bounds-cat-u-in-loop-rest-2
 offset_bounds-cat-u-in-loop-rest-2 c = omega (arith, eight (goal.at.offset_bounds-cat-u-in-loop-rest-2 c).After-lowest-u)
@@ -102,35 +94,27 @@ bounds-cat-u-in-loop-rest-2 c = omega (arith, eight (goal.at.bounds-cat-u-in-loo
 
 pub overflow_cast-reach : goal.overflow_cast-reach
 overflow_cast-reach c =
-    let a = c in
-    omega (arith, mask-small a.args.cat _ a.requires.0 _ (turn (goal.at.overflow_cast-reach a).After-lowest-u))
+    omega (arith, mask-small c.args.cat _ c.requires.0 _ (turn (goal.at.overflow_cast-reach c).After-lowest-u))
 
 pub without_lowest-rest-requires : goal.without_lowest-rest-requires
 without_lowest-rest-requires c = omega (arith, c.loop-rest-test.true)
 
 pub loop-rest-smaller : goal.loop-rest-smaller
 loop-rest-smaller c =
-    let a = c in
-    rw (c.without_lowest-rest.ensures _ a.lowest-u.ensures) (less-lt _ _ a.lowest-u.ensures.itself)
+    rw (c.without_lowest-rest.ensures _ c.lowest-u.ensures) (less-lt _ _ c.lowest-u.ensures.itself)
 
 pub loop-rest-preserved : goal.loop-rest-preserved
 loop-rest-preserved c =
-    let q = c in
-    let a = q in
-    let s = a in
-    let l = a in
-    let b = a.lowest-u.ensures.itself in
-    let o = lacking-more (set_of s.args.cat (number_of s.args.held.key)) l.loop-rest.rest a.lowest-u.result b _ (own (goal.at.loop-rest-preserved q).After-row_of-r) (there (goal.at.loop-rest-preserved q).After-row_of-r).low in
-    rw (c.without_lowest-rest.ensures _ a.lowest-u.ensures) (
-      λ u d. l.loop-rest.invariant.0 u (without-under _ _ b u d),
-      merged-add s.args.cat s.args.cells.now _ s.requires.0 _ _ _ _ (turn (goal.at.loop-rest-preserved a).After-lowest-u) o _ _ _ _ l.loop-rest.invariant.1
-          (rw (← start_of s.args.cat a.lowest-u.result q.row_of-r.result _ (s.requires.0.places _ (turn (goal.at.loop-rest-preserved a).After-lowest-u))) c.merge_add-attrs.ensures),
-      gathered-add _ _ _ _ _ _ o l.loop-rest.invariant.2,
+    let b = c.lowest-u.ensures.itself in
+    let o = lacking-more (set_of c.args.cat (number_of c.args.held.key)) c.loop-rest.rest c.lowest-u.result b _ (own (goal.at.loop-rest-preserved c).After-row_of-r) (there (goal.at.loop-rest-preserved c).After-row_of-r).low in
+    rw (c.without_lowest-rest.ensures _ c.lowest-u.ensures) (
+      λ u d. c.loop-rest.invariant.0 u (without-under _ _ b u d),
+      merged-add c.args.cat c.args.cells.now _ c.requires.0 _ _ _ _ (turn (goal.at.loop-rest-preserved c).After-lowest-u) o _ _ _ _ c.loop-rest.invariant.1
+          (rw (← start_of c.args.cat c.lowest-u.result c.row_of-r.result _ (c.requires.0.places _ (turn (goal.at.loop-rest-preserved c).After-lowest-u))) c.merge_add-attrs.ensures),
+      gathered-add _ _ _ _ _ _ o c.loop-rest.invariant.2,
     )
 
 pub returns : goal.returns
 returns c =
-    let l = c in
-    let s = l in
-    let z = lacking-none (set_of s.args.cat (number_of s.args.held.key)) in
-    (merged-same _ _ _ _ _ _ z (rw c.loop-rest-test.false at l.loop-rest.invariant.1), gathered-same _ _ _ _ z (rw c.loop-rest-test.false at l.loop-rest.invariant.2))
+    let z = lacking-none (set_of c.args.cat (number_of c.args.held.key)) in
+    (merged-same _ _ _ _ _ _ z (rw c.loop-rest-test.false at c.loop-rest.invariant.1), gathered-same _ _ _ _ z (rw c.loop-rest-test.false at c.loop-rest.invariant.2))

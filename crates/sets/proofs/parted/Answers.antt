@@ -46,21 +46,19 @@ pub overflow_cast-base : goal.overflow_cast-base
 overflow_cast-base c = omega (arith, (small-own (goal.at.overflow_cast-base c).Start).place)
 
 pub merge_add-attrs-requires : goal.merge_add-attrs-requires
-merge_add-attrs-requires c =
-    let s = c in (
-      s.requires.1.wide _ s.requires.4.table,
-      s.requires.4.low,
-      rw (start_of s.args.cat s.args.x.table _ _ (s.requires.0.places _ s.requires.4.table)) (row_room _ _ s.requires.0 _ _ s.requires.4),
-      refl,
-    )
+merge_add-attrs-requires c = (
+  c.requires.1.wide _ c.requires.4.table,
+  c.requires.4.low,
+  rw (start_of c.args.cat c.args.x.table _ _ (c.requires.0.places _ c.requires.4.table)) (row_room _ _ c.requires.0 _ _ c.requires.4),
+  refl,
+)
 
 pub overflow_cast-rest : goal.overflow_cast-rest
-overflow_cast-rest c = let s = c in omega (arith, mask-small s.args.cat _ s.requires.0 _ s.requires.4.table)
+overflow_cast-rest c = omega (arith, mask-small c.args.cat _ c.requires.0 _ c.requires.4.table)
 
 pub loop-rest-init : goal.loop-rest-init
 loop-rest-init c =
-    let s = c in
-    parting-start _ _ _ s.requires.0 (set-of (goal.at.loop-rest-init s).Start) (long (goal.at.loop-rest-init s).Start) (place_of s.args.x) s.requires.4 _ s.requires.3
+    parting-start _ _ _ c.requires.0 (set-of (goal.at.loop-rest-init c).Start) (long (goal.at.loop-rest-init c).Start) (place_of c.args.x) c.requires.4 _ c.requires.3
 
 pub lowest-u-requires : goal.lowest-u-requires
 lowest-u-requires c = omega (arith, c.loop-rest-test.true)
@@ -72,14 +70,13 @@ near a = a.loop-rest.invariant.under _ a.lowest-u.ensures.itself
 
 turn : (a : After-lowest-u) → a.lowest-u.result < a.args.cat.n
 turn a =
-    let s = a in
-    near-table s.args.cat s.args.cells.now _ s.requires.0 (set-of (goal.at-After-lowest-u s).Start) (long (goal.at-After-lowest-u s).Start) (place_of s.args.x) s.requires.4 _ s.requires.3 _ (near a)
+    near-table a.args.cat a.args.cells.now _ a.requires.0 (set-of (goal.at-After-lowest-u a).Start) (long (goal.at-After-lowest-u a).Start) (place_of a.args.x) a.requires.4 _ a.requires.3 _ (near a)
 
 eight : (a : After-lowest-u) → a.lowest-u.result < most_tables
 eight a = omega (arith, turn a, a.requires.0.tables)
 
 small : (a : After-lowest-u) → Small a.args.cat a.args.layout a.lowest-u.result
-small a = let s = a in laid-small s.args.cat _ s.requires.0 s.args.cells.now _ s.requires.1 _ (turn a)
+small a = laid-small a.args.cat _ a.requires.0 a.args.cells.now _ a.requires.1 _ (turn a)
 
 pub offset_bounds-cat-u : goal.offset_bounds-cat-u
 offset_bounds-cat-u c = omega (arith, eight c)
@@ -93,24 +90,19 @@ row_of-q-requires c = eight (goal.at.row_of-q-requires c).After-lowest-u
 -- its row, as the code reads it
 own : (q : After-row_of-q) → at (set-of (goal.at-After-row_of-q q).Start) q.lowest-u.result ≡ q.row_of-q.result
 own q =
-    let s = q in
-    in-at bits_per_row s.args.cat.n (number_of s.args.held.key) _ (turn (goal.at-After-row_of-q q).After-lowest-u) ∙ sym q.row_of-q.ensures
+    in-at bits_per_row q.args.cat.n (number_of q.args.held.key) _ (turn (goal.at-After-row_of-q q).After-lowest-u) ∙ sym q.row_of-q.ensures
 
 there : (q : After-row_of-q) → There q.args.cat q.lowest-u.result q.row_of-q.result
 there q =
-    let a = q in
-    let s = a in
-    let m = near-member s.args.cat s.args.cells.now _ s.requires.0 (set-of (goal.at-After-row_of-q s).Start) (long (goal.at-After-row_of-q s).Start) (place_of s.args.x) s.requires.4 _ s.requires.3 _ (near (goal.at-After-row_of-q a).After-lowest-u) in
-    record { table = turn (goal.at-After-row_of-q a).After-lowest-u; low = omega (arith, own q, m); high = omega (arith, q.row_of-q.ensures, s.requires.2.rows _ (turn (goal.at-After-row_of-q a).After-lowest-u)) }
+    let m = near-member q.args.cat q.args.cells.now _ q.requires.0 (set-of (goal.at-After-row_of-q q).Start) (long (goal.at-After-row_of-q q).Start) (place_of q.args.x) q.requires.4 _ q.requires.3 _ (near (goal.at-After-row_of-q q).After-lowest-u) in
+    record { table = turn (goal.at-After-row_of-q q).After-lowest-u; low = omega (arith, own q, m); high = omega (arith, q.row_of-q.ensures, q.requires.2.rows _ (turn (goal.at-After-row_of-q q).After-lowest-u)) }
 
 -- where it begins, and that its cells are there
 begins : (q : After-row_of-q)
     → place_in q.args.cat q.lowest-u.result + (q.row_of-q.result - 1) * get_or q.args.layout.widths q.lowest-u.result 0
     ≡ row_start q.args.cat q.lowest-u.result q.row_of-q.result
 begins q =
-    let a = q in
-    let s = a in
-    rw (s.requires.1.wide _ (turn (goal.at-After-row_of-q a).After-lowest-u)) (start_of s.args.cat a.lowest-u.result q.row_of-q.result _ (s.requires.0.places _ (turn (goal.at-After-row_of-q a).After-lowest-u)))
+    rw (q.requires.1.wide _ (turn (goal.at-After-row_of-q q).After-lowest-u)) (start_of q.args.cat q.lowest-u.result q.row_of-q.result _ (q.requires.0.places _ (turn (goal.at-After-row_of-q q).After-lowest-u)))
 
 room : (q : After-row_of-q)
     → (place_in q.args.cat q.lowest-u.result + (q.row_of-q.result - 1) * get_or q.args.layout.widths q.lowest-u.result 0)
@@ -157,35 +149,27 @@ without_lowest-rest-requires c = omega (arith, c.loop-rest-test.true)
 
 pub loop-rest-smaller : goal.loop-rest-smaller
 loop-rest-smaller c =
-    let a = c in
-    rw (c.without_lowest-rest.ensures _ a.lowest-u.ensures) (less-lt _ _ a.lowest-u.ensures.itself)
+    rw (c.without_lowest-rest.ensures _ c.lowest-u.ensures) (less-lt _ _ c.lowest-u.ensures.itself)
 
 pub loop-rest-preserved : goal.loop-rest-preserved
 loop-rest-preserved c =
-    let f = c in
-    let q = f in
-    let a = q in
-    let l = a in
-    let s = a in
-    let m = merged-one _ _ _ s.requires.0 _ _ _ _ _ s.requires.4 refl l.merge_add-attrs.ensures in
-    let e = begins (goal.at.loop-rest-preserved q).After-row_of-q ∙ ap (row_start s.args.cat a.lowest-u.result) (sym (own (goal.at.loop-rest-preserved q).After-row_of-q)) in
-    rw (c.without_lowest-rest.ensures _ a.lowest-u.ensures)
+    let m = merged-one _ _ _ c.requires.0 _ _ _ _ _ c.requires.4 refl c.merge_add-attrs.ensures in
+    let e = begins (goal.at.loop-rest-preserved c).After-row_of-q ∙ ap (row_start c.args.cat c.lowest-u.result) (sym (own (goal.at.loop-rest-preserved c).After-row_of-q)) in
+    rw (c.without_lowest-rest.ensures _ c.lowest-u.ensures)
     (elim c.if-not-row_fits.branch [
       | then-not-row_fits w ↦
           rw w.gone-is
-          (parting-goes _ _ _ s.requires.0 (set-of (goal.at.loop-rest-preserved s).Start) (long (goal.at.loop-rest-preserved s).Start) (place_of s.args.x) s.requires.4 _ s.requires.3 _ _ l.loop-rest.invariant _
-          a.lowest-u.ensures.itself _ _ m _ e
-          (ap not (sym f.row_fits.ensures) ∙ w.if-not-row_fits.true-raw) _ (bit (goal.at.loop-rest-preserved a).After-lowest-u))
+          (parting-goes _ _ _ c.requires.0 (set-of (goal.at.loop-rest-preserved c).Start) (long (goal.at.loop-rest-preserved c).Start) (place_of c.args.x) c.requires.4 _ c.requires.3 _ _ c.loop-rest.invariant _
+          c.lowest-u.ensures.itself _ _ m _ e
+          (ap not (sym c.row_fits.ensures) ∙ w.if-not-row_fits.true-raw) _ (bit (goal.at.loop-rest-preserved c).After-lowest-u))
       | else-not-row_fits w ↦
           rw w.gone-is
-          (parting-stays _ _ _ s.requires.0 (set-of (goal.at.loop-rest-preserved s).Start) (long (goal.at.loop-rest-preserved s).Start) (place_of s.args.x) s.requires.4 _ s.requires.3 _ _ l.loop-rest.invariant _
-          a.lowest-u.ensures.itself _ _ m _ e
-          (ap not (sym f.row_fits.ensures) ∙ w.if-not-row_fits.false-raw))
+          (parting-stays _ _ _ c.requires.0 (set-of (goal.at.loop-rest-preserved c).Start) (long (goal.at.loop-rest-preserved c).Start) (place_of c.args.x) c.requires.4 _ c.requires.3 _ _ c.loop-rest.invariant _
+          c.lowest-u.ensures.itself _ _ m _ e
+          (ap not (sym c.row_fits.ensures) ∙ w.if-not-row_fits.false-raw))
     ])
 
 pub returns : goal.returns
 returns c =
-    let l = c in
-    let s = l in
-    parting-end s.args.cat s.args.cells.now _ s.requires.0 (set-of (goal.at.returns s).Start) (long (goal.at.returns s).Start) (place_of s.args.x) s.requires.4 _ s.requires.3 _
-    (rw c.loop-rest-test.false at l.loop-rest.invariant)
+    parting-end c.args.cat c.args.cells.now _ c.requires.0 (set-of (goal.at.returns c).Start) (long (goal.at.returns c).Start) (place_of c.args.x) c.requires.4 _ c.requires.3 _
+    (rw c.loop-rest-test.false at c.loop-rest.invariant)

@@ -46,25 +46,22 @@ pub overflow_sub-left : goal.overflow_sub-left
 overflow_sub-left c = rw (bit (goal.at.overflow_sub-left c).Start) (less-bit _ _ (has (goal.at.overflow_sub-left c).Start)).0
 
 pub overflow_cast-reach : goal.overflow_cast-reach
-overflow_cast-reach c = let s = c in omega (arith, mask-small s.args.cat _ s.requires.0 _ s.requires.1.table)
+overflow_cast-reach c = omega (arith, mask-small c.args.cat _ c.requires.0 _ c.requires.1.table)
 
 pub loop-left-init : goal.loop-left-init
 loop-left-init c =
-    let s = c in
-    join-start _ _ s.requires.0 (set_of s.args.cat (number_of s.args.all.key)) (long (goal.at.loop-left-init s).Start) _ (there (goal.at.loop-left-init s).Start) refl _ s.requires.2.tables _ (bit (goal.at.loop-left-init s).Start)
+    join-start _ _ c.requires.0 (set_of c.args.cat (number_of c.args.all.key)) (long (goal.at.loop-left-init c).Start) _ (there (goal.at.loop-left-init c).Start) refl _ c.requires.2.tables _ (bit (goal.at.loop-left-init c).Start)
 
 pub lowest-u-requires : goal.lowest-u-requires
 lowest-u-requires c = omega (arith, c.loop-left-test.true)
 
 -- the table that joins is one of those left
 left : (a : After-lowest-u) → bit_of a.loop-left.left a.lowest-u.result ≡ true
-left a = let l = a in (and_split _ _ (sym (bit-and l.loop-left.left l.loop-left.reach a.lowest-u.result) ∙ a.lowest-u.ensures.itself)).0
+left a = (and_split _ _ (sym (bit-and a.loop-left.left a.loop-left.reach a.lowest-u.result) ∙ a.lowest-u.ensures.itself)).0
 
 turn : (a : After-lowest-u) → a.lowest-u.result < a.args.cat.n
 turn a =
-    let l = a in
-    let s = l in
-    member-table (world_of s.args.cat []) (set_of s.args.cat (number_of s.args.all.key)) (long (goal.at-After-lowest-u s).Start) _ (l.loop-left.invariant.within _ (left a))
+    member-table (world_of a.args.cat []) (set_of a.args.cat (number_of a.args.all.key)) (long (goal.at-After-lowest-u a).Start) _ (a.loop-left.invariant.within _ (left a))
 
 bit-2 : (a : After-lowest-u) → 1 * 2 ^ a.lowest-u.result % 2 ^ 64 ≡ 2 ^ a.lowest-u.result
 bit-2 a = one_shl _ (omega (arith, turn a, a.requires.0.tables))
@@ -83,19 +80,14 @@ bounds-cat-u c = omega (arith, turn c, c.requires.0.tables)
 
 pub overflow_cast-reach-in-loop-left : goal.overflow_cast-reach-in-loop-left
 overflow_cast-reach-in-loop-left c =
-    let a = c in
-    let s = a in
-    omega (arith, mask-small s.args.cat _ s.requires.0 _ (turn (goal.at.overflow_cast-reach-in-loop-left a).After-lowest-u))
+    omega (arith, mask-small c.args.cat _ c.requires.0 _ (turn (goal.at.overflow_cast-reach-in-loop-left c).After-lowest-u))
 
 pub loop-left-smaller : goal.loop-left-smaller
-loop-left-smaller c = let a = c in rw (bit-2 (goal.at.loop-left-smaller a).After-lowest-u) (less-lt _ _ (left (goal.at.loop-left-smaller a).After-lowest-u))
+loop-left-smaller c = rw (bit-2 (goal.at.loop-left-smaller c).After-lowest-u) (less-lt _ _ (left (goal.at.loop-left-smaller c).After-lowest-u))
 
 pub loop-left-preserved : goal.loop-left-preserved
 loop-left-preserved c =
-    let a = c in
-    let l = a in
-    let s = l in
-    join-next _ _ s.requires.0 (set_of s.args.cat (number_of s.args.all.key)) (long (goal.at.loop-left-preserved s).Start) _ (there (goal.at.loop-left-preserved s).Start) refl _ _ l.loop-left.invariant _ _ a.lowest-u.ensures.itself (bit-2 (goal.at.loop-left-preserved a).After-lowest-u)
+    join-next _ _ c.requires.0 (set_of c.args.cat (number_of c.args.all.key)) (long (goal.at.loop-left-preserved c).Start) _ (there (goal.at.loop-left-preserved c).Start) refl _ _ c.loop-left.invariant _ _ c.lowest-u.ensures.itself (bit-2 (goal.at.loop-left-preserved c).After-lowest-u)
 
 -- what is left are tables of the set
 under : (l : At-loop-left) → Under l.loop-left.left l.args.all.tables
@@ -103,17 +95,13 @@ under l u b = tables-of _ _ l.requires.2.tables _ (l.loop-left.invariant.within 
 
 pub without-requires : goal.without-requires
 without-requires c = λ u b.
-    let l = c in
-    let s = l in
-    omega (arith, tables-lt (set_of s.args.cat (number_of s.args.all.key)) _ s.requires.2.tables u (under (goal.at.without-requires l).At-loop-left u b), long (goal.at.without-requires s).Start, s.requires.0.tables)
+    omega (arith, tables-lt (set_of c.args.cat (number_of c.args.all.key)) _ c.requires.2.tables u (under (goal.at.without-requires c).At-loop-left u b), long (goal.at.without-requires c).Start, c.requires.0.tables)
 
 pub returns : goal.returns
 returns c cells =
-    let l = c in
-    let s = l in
     rw (
-      ← s.requires.3,
-      ← join-end _ _ s.requires.0 (set_of s.args.cat (number_of s.args.all.key)) (long (goal.at.returns s).Start) _ (there (goal.at.returns s).Start) refl _ _ l.loop-left.invariant
+      ← c.requires.3,
+      ← join-end _ _ c.requires.0 (set_of c.args.cat (number_of c.args.all.key)) (long (goal.at.returns c).Start) _ (there (goal.at.returns c).Start) refl _ _ c.loop-left.invariant
           c.loop-left-test.false cells,
     )
-    (c.without.ensures _ _ s.requires.2 (under (goal.at.returns l).At-loop-left))
+    (c.without.ensures _ _ c.requires.2 (under (goal.at.returns c).At-loop-left))

@@ -15,28 +15,22 @@ loop-t-init c = rising_none _ _
 
 pub rises-requires : goal.rises-requires
 rises-requires c =
-    let o = c in
-    let s = o in
-    let b = o.loop-t-test.true in
-    let n = scheme-narrow s.args.cat _ s.requires.0 _ b in
-    rw (s.requires.1.wide _ b, s.requires.0.places _ b) (
+    let b = c.loop-t-test.true in
+    let n = scheme-narrow c.args.cat _ c.requires.0 _ b in
+    rw (c.requires.1.wide _ b, c.requires.0.places _ b) (
       ones-le merged_length _ n,
-      omega (arith, table-ends s.args.cat _ b, s.requires.0.room, some-cell 64 (scheme_of s.args.cat o.loop-t.t) n (s.requires.0.some-scheme _ b)),
+      omega (arith, table-ends c.args.cat _ b, c.requires.0.room, some-cell 64 (scheme_of c.args.cat c.loop-t.t) n (c.requires.0.some-scheme _ b)),
     )
 
 pub loop-t-preserved : goal.loop-t-preserved
 loop-t-preserved c =
-    let r = c in
-    let o = r in
-    let l = o in
-    let s = l in
-    let b = o.loop-t-test.true in
+    let b = c.loop-t-test.true in
     elim c.if-rises.branch [
       | then-rises x ↦
           rw x.rising-is
-          (rising-more s.args.cat s.args.cells.now l.loop-t.t _ _ l.loop-t.invariant (one_shl l.loop-t.t (omega (arith, b, s.requires.0.tables)))
-          (rw (s.requires.1.wide _ b, s.requires.0.places _ b) at (r.rises.ensures x.if-rises.true)))
-      | else-rises x ↦ rw x.rising-is l.loop-t.invariant
+          (rising-more c.args.cat c.args.cells.now c.loop-t.t _ _ c.loop-t.invariant (one_shl c.loop-t.t (omega (arith, b, c.requires.0.tables)))
+          (rw (c.requires.1.wide _ b, c.requires.0.places _ b) at (c.rises.ensures x.if-rises.true)))
+      | else-rises x ↦ rw x.rising-is c.loop-t.invariant
     ]
 
 pub returns : goal.returns

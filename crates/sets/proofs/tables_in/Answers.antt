@@ -16,21 +16,17 @@ loop-u-init c = (omega arith, marked-none _)
 
 pub loop-u-preserved : goal.loop-u-preserved
 loop-u-preserved c =
-    let l = c in
-    let s = l in
     let b = c.loop-u-test.true in
-    let own = in-at bits_per_row s.args.cat.n (number_of s.args.key) l.loop-u.u b ∙ sym c.row_of.ensures in (
+    let own = in-at bits_per_row c.args.cat.n (number_of c.args.key) c.loop-u.u b ∙ sym c.row_of.ensures in (
       omega (arith, b),
       elim c.if-row_of-ne0.branch [
         | then-row_of-ne0 w ↦
             rw w.tables-is
-            (marked_row _ _ l.loop-u.u l.loop-u.invariant.1 (omega (arith, own, w.if-row_of-ne0.true)) _ (one_shl l.loop-u.u (omega (arith, b, s.requires.tables))))
-        | else-row_of-ne0 w ↦ rw w.tables-is (marked-skip _ _ l.loop-u.u l.loop-u.invariant.1 (own ∙ w.if-row_of-ne0.false))
+            (marked_row _ _ c.loop-u.u c.loop-u.invariant.1 (omega (arith, own, w.if-row_of-ne0.true)) _ (one_shl c.loop-u.u (omega (arith, b, c.requires.tables))))
+        | else-row_of-ne0 w ↦ rw w.tables-is (marked-skip _ _ c.loop-u.u c.loop-u.invariant.1 (own ∙ w.if-row_of-ne0.false))
       ],
     )
 
 pub returns : goal.returns
 returns c =
-    let l = c in
-    let s = l in
-    marked-end _ _ l.loop-u.u l.loop-u.invariant.1 (λ v h. in-past bits_per_row s.args.cat.n (number_of s.args.key) v (omega (arith, h, c.loop-u-test.false)))
+    marked-end _ _ c.loop-u.u c.loop-u.invariant.1 (λ v h. in-past bits_per_row c.args.cat.n (number_of c.args.key) v (omega (arith, h, c.loop-u-test.false)))

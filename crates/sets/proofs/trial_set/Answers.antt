@@ -8,35 +8,28 @@ pub tables_in-tables-requires : goal.tables_in-tables-requires
 tables_in-tables-requires c = lawful-all _ _ c.requires.0
 
 pub kept-all-requires : goal.kept-all-requires
-kept-all-requires c = let s = c in (s.requires.0, s.requires.1, s.requires.2, c.tables_in-tables.ensures, s.requires.3)
+kept-all-requires c = (c.requires.0, c.requires.1, c.requires.2, c.tables_in-tables.ensures, c.requires.3)
 
 pub piece_of-part-requires : goal.piece_of-part-requires
-piece_of-part-requires c =
-    let s = c in (
-      lawful-all _ _ s.requires.0,
-      s.requires.3,
-      kept-own _ _ _ s.requires.0 _ s.requires.2 _ s.requires.3 _ c.kept-all.ensures,
-      kept_here _ _ _ s.requires.0 _ s.requires.2 _ s.requires.3 _ c.kept-all.ensures,
-    )
+piece_of-part-requires c = (
+  lawful-all _ _ c.requires.0,
+  c.requires.3,
+  kept-own _ _ _ c.requires.0 _ c.requires.2 _ c.requires.3 _ c.kept-all.ensures,
+  kept_here _ _ _ c.requires.0 _ c.requires.2 _ c.requires.3 _ c.kept-all.ensures,
+)
 
 pub overflow_sub-row : goal.overflow_sub-row
 overflow_sub-row c = omega (arith, c.requires.3.low)
 
 pub extended-requires : goal.extended-requires
 extended-requires c =
-    let p = c in
-    let k = p in
-    let s = k in
-    let P = p.piece_of-part.ensures s.args.cells.now in (
-      s.requires.0,
-      s.requires.1,
-      start-named _ _ _ s.requires.0 _ s.requires.2 _ s.requires.3 _ k.kept-all.ensures _ P,
-      start-tables _ _ _ s.requires.0 _ s.requires.2 _ s.requires.3 _ k.kept-all.ensures _ P,
+    let P = c.piece_of-part.ensures c.args.cells.now in (
+      c.requires.0,
+      c.requires.1,
+      start-named _ _ _ c.requires.0 _ c.requires.2 _ c.requires.3 _ c.kept-all.ensures _ P,
+      start-tables _ _ _ c.requires.0 _ c.requires.2 _ c.requires.3 _ c.kept-all.ensures _ P,
     )
 
 pub returns : goal.returns
 returns c =
-    let p = c in
-    let k = p in
-    let s = k in
-    tried _ _ _ s.requires.0 _ s.requires.2 _ s.requires.3 _ k.kept-all.ensures _ (p.piece_of-part.ensures s.args.cells.now) _ _ c.extended.ensures
+    tried _ _ _ c.requires.0 _ c.requires.2 _ c.requires.3 _ c.kept-all.ensures _ (c.piece_of-part.ensures c.args.cells.now) _ _ c.extended.ensures

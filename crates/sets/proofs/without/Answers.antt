@@ -11,25 +11,20 @@ loop-rest-init c = (λ u b. b, λ cat T S h. leaving-start cat T _ S _)
 
 pub with_row-key-requires : goal.with_row-key-requires
 with_row-key-requires c =
-    let l = c in
-    (l.requires _ (l.loop-rest.invariant.0 _ c.lowest.ensures.itself), pow_pos bits_per_row)
+    (c.requires _ (c.loop-rest.invariant.0 _ c.lowest.ensures.itself), pow_pos bits_per_row)
 
 pub loop-rest-smaller : goal.loop-rest-smaller
 loop-rest-smaller c =
-    let a = c in
-    rw (c.without_lowest-rest.ensures _ a.lowest.ensures) (less-lt _ _ a.lowest.ensures.itself)
+    rw (c.without_lowest-rest.ensures _ c.lowest.ensures) (less-lt _ _ c.lowest.ensures.itself)
 
 pub loop-rest-preserved : goal.loop-rest-preserved
 loop-rest-preserved c =
-    let a = c in
-    let l = a in
-    let b = a.lowest.ensures.itself in
-    rw (c.without_lowest-rest.ensures _ a.lowest.ensures) (
-      λ u d. l.loop-rest.invariant.0 u (without-under _ _ b u d),
-      λ cat T S h. leaving-next cat T _ S _ h _ _ (l.loop-rest.invariant.1 cat T S h) _ (l.loop-rest.invariant.0 _ b) b _ c.with_row-key.ensures,
+    let b = c.lowest.ensures.itself in
+    rw (c.without_lowest-rest.ensures _ c.lowest.ensures) (
+      λ u d. c.loop-rest.invariant.0 u (without-under _ _ b u d),
+      λ cat T S h. leaving-next cat T _ S _ h _ _ (c.loop-rest.invariant.1 cat T S h) _ (c.loop-rest.invariant.0 _ b) b _ c.with_row-key.ensures,
     )
 
 pub returns : goal.returns
 returns c cat T S h =
-    let l = c in
-    leaving-end cat T _ S _ h _ _ (l.loop-rest.invariant.1 cat T S h) c.loop-rest-test.false
+    leaving-end cat T _ S _ h _ _ (c.loop-rest.invariant.1 cat T S h) c.loop-rest-test.false

@@ -8,10 +8,9 @@ use Rattle.store.proofs.file_record.Goals as goal
 pub returns : goal.returns
 unfolding filed
 returns c =
-    let s = c in
     record {
-      low = ap (λ (x : ℕ). set s.args.low.now s.args.at x) c.low_word.ensures;
-      high = ap (λ (x : ℕ). set s.args.high.now s.args.at x) c.high_word.ensures;
+      low = ap (λ (x : ℕ). set c.args.low.now c.args.at x) c.low_word.ensures;
+      high = ap (λ (x : ℕ). set c.args.high.now c.args.at x) c.high_word.ensures;
       left = refl;
       right = refl;
     }

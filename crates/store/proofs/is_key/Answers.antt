@@ -7,5 +7,4 @@ use Rattle.store.proofs.is_key.Goals as goal
 
 pub returns : goal.returns
 returns c =
-    let s = c in
-    c.same.ensures ∙ ap (λ (x : ℕ). eqb x (number_of s.args.sought)) c.key_at.ensures
+    c.same.ensures ∙ ap (λ (x : ℕ). eqb x (number_of c.args.sought)) c.key_at.ensures

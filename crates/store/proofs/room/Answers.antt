@@ -6,9 +6,7 @@ use Rattle.store.proofs.room.Goals as goal
 
 pub returns : goal.returns
 returns c =
-    let third = c in
-    let second = third in
-    let g = second.args in
-    let two = second.least-2.ensures ∙ ap (λ (x : ℕ). min x (length g.high.now)) second.least.ensures in
-    let three = third.least-3.ensures ∙ ap (λ (x : ℕ). min x (length g.left.now)) two in
+    let g = c.args in
+    let two = c.least-2.ensures ∙ ap (λ (x : ℕ). min x (length g.high.now)) c.least.ensures in
+    let three = c.least-3.ensures ∙ ap (λ (x : ℕ). min x (length g.left.now)) two in
     c.least-4.ensures ∙ ap (λ (x : ℕ). min x (length g.right.now)) three

@@ -29,8 +29,7 @@ overflow_cast-places c =
 ends : (c : In-loop-t)
     → c.loop-t.at + count_of c.args.cat c.loop-t.t * ones (scheme_of c.args.cat c.loop-t.t) ≤ most_cells
 ends c =
-    let l = c in
-    omega (arith, l.loop-t.invariant.1, table-ends l.args.cat l.loop-t.t c.loop-t-test.true, l.requires.1)
+    omega (arith, c.loop-t.invariant.1, table-ends c.args.cat c.loop-t.t c.loop-t-test.true, c.requires.1)
 
 pub overflow_mul-at : goal.overflow_mul-at
 overflow_mul-at c = rw c.width.ensures (omega (arith, ends (goal.at.overflow_mul-at c).In-loop-t))
@@ -40,13 +39,12 @@ overflow_add-at c = rw c.width.ensures (omega (arith, ends (goal.at.overflow_add
 
 pub loop-t-preserved : goal.loop-t-preserved
 loop-t-preserved c =
-    let l = c in
-    let v = l.loop-t.invariant in
+    let v = c.loop-t.invariant in
     let h = few (goal.at.loop-t-preserved c).In-loop-t in (
       omega (arith, c.loop-t-test.true),
-      rw (c.width.ensures, cells-next l.args.cat l.loop-t.t, ← v.1),
-      entered-next (first_cell l.args.cat) l.loop-t.places l.loop-t.t l.loop-t.at h v.1 v.2,
-      entered-next (touching_of l.args.cat) l.loop-t.touching l.loop-t.t _ h c.touching_of.ensures v.3,
+      rw (c.width.ensures, cells-next c.args.cat c.loop-t.t, ← v.1),
+      entered-next (first_cell c.args.cat) c.loop-t.places c.loop-t.t c.loop-t.at h v.1 v.2,
+      entered-next (touching_of c.args.cat) c.loop-t.touching c.loop-t.t _ h c.touching_of.ensures v.3,
     )
 
 -- The catalogue with these two lists.
@@ -56,8 +54,7 @@ storing cat places touching =
 
 pub returns : goal.returns
 returns c =
-    let l = c in
-    let e : l.loop-t.t ≡ l.args.cat.n = omega (arith, c.loop-t-test.false, l.loop-t.invariant.0) in
-    ap₂ (storing l.args.cat)
-    (entered_all _ _ _ l.requires.0 (rw e at l.loop-t.invariant.2))
-    (entered_all _ _ _ l.requires.0 (rw e at l.loop-t.invariant.3))
+    let e : c.loop-t.t ≡ c.args.cat.n = omega (arith, c.loop-t-test.false, c.loop-t.invariant.0) in
+    ap₂ (storing c.args.cat)
+    (entered_all _ _ _ c.requires.0 (rw e at c.loop-t.invariant.2))
+    (entered_all _ _ _ c.requires.0 (rw e at c.loop-t.invariant.3))

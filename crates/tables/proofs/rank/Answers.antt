@@ -8,7 +8,7 @@ pub nonzero_rem-below : goal.nonzero_rem-below
 nonzero_rem-below c = rw (one_shl c.args.a c.requires) (pow_pos _)
 
 pub returns-then-below-eq0 : goal.returns-then-below-eq0
-returns-then-below-eq0 c = let s = c in rank-none _ _ (rw (one_shl s.args.a s.requires) at c.if-below-eq0.true)
+returns-then-below-eq0 c = rank-none _ _ (rw (one_shl c.args.a c.requires) at c.if-below-eq0.true)
 
 pub returns : goal.returns
-returns c = let s = c in rw (← one_shl s.args.a s.requires) c.width.ensures
+returns c = rw (← one_shl c.args.a c.requires) c.width.ensures

@@ -12,28 +12,23 @@ loop-t-init c =
 
 pub overflow_add-result : goal.overflow_add-result
 overflow_add-result c =
-    let s = c in
-    omega (arith, rows_few s.args.cat _ s.requires.0 s.args.cat.n (omega arith))
+    omega (arith, rows_few c.args.cat _ c.requires.0 c.args.cat.n (omega arith))
 
 pub returns-then-p-rows : goal.returns-then-p-rows
 returns-then-p-rows c =
-    let s = c in
-    sym (s.loop-t.invariant.2 ∙ row_here _ _ _ _ (omega arith) c.if-p-rows.true)
+    sym (c.loop-t.invariant.2 ∙ row_here _ _ _ _ (omega arith) c.if-p-rows.true)
 
 pub loop-t-preserved : goal.loop-t-preserved
 loop-t-preserved c =
-    let s = c in
-    let cat = s.args.cat in
-    let e : cat.n - s.loop-t.t - 1 ≡ cat.n - (s.loop-t.t + 1) = omega arith in
-    (omega arith, omega arith, s.loop-t.invariant.2 ∙ row-later cat (cat.n - s.loop-t.t) s.loop-t.t s.loop-t.p (omega arith) c.if-p-rows.false ∙ rw e)
+    let cat = c.args.cat in
+    let e : cat.n - c.loop-t.t - 1 ≡ cat.n - (c.loop-t.t + 1) = omega arith in
+    (omega arith, omega arith, c.loop-t.invariant.2 ∙ row-later cat (cat.n - c.loop-t.t) c.loop-t.t c.loop-t.p (omega arith) c.if-p-rows.false ∙ rw e)
 
 pub overflow_add-result-2 : goal.overflow_add-result-2
 overflow_add-result-2 c =
-    let s = c in
-    omega (arith, rows_few s.args.cat _ s.requires.0 s.args.cat.n (omega arith))
+    omega (arith, rows_few c.args.cat _ c.requires.0 c.args.cat.n (omega arith))
 
 pub returns : goal.returns
 returns c =
-    let s = c in
-    let e : s.args.cat.n - s.loop-t.t ≡ 0 = omega arith in
-    sym ((rw e at s.loop-t.invariant.2) ∙ row-past _ _ _)
+    let e : c.args.cat.n - c.loop-t.t ≡ 0 = omega arith in
+    sym ((rw e at c.loop-t.invariant.2) ∙ row-past _ _ _)

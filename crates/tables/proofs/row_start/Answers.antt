@@ -11,16 +11,15 @@ use Rattle.tables.proofs.row_start.Goals as goal
 begins : (c : After-width) → first_cell c.args.cat c.args.table + (c.args.row - 1) * c.width.result ≤ most_cells
 unfolding row_start
 begins c =
-    let s = c in
     rw c.width.ensures
-    (omega (arith, row_inside s.args.cat _ s.requires.0 s.args.table s.args.row s.requires.1 s.requires.3 s.requires.2, s.requires.0.cells))
+    (omega (arith, row_inside c.args.cat _ c.requires.0 c.args.table c.args.row c.requires.1 c.requires.3 c.requires.2, c.requires.0.cells))
 
 pub overflow_mul-result : goal.overflow_mul-result
 overflow_mul-result c = omega (arith, begins c)
 
 pub overflow_add-result : goal.overflow_add-result
-overflow_add-result c = let s = c in omega (arith, begins c, s.requires.0.places s.args.table s.requires.1)
+overflow_add-result c = omega (arith, begins c, c.requires.0.places c.args.table c.requires.1)
 
 pub returns : goal.returns
 unfolding row_start
-returns c = let s = c in rw (c.width.ensures, s.requires.0.places s.args.table s.requires.1)
+returns c = rw (c.width.ensures, c.requires.0.places c.args.table c.requires.1)

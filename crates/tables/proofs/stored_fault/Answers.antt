@@ -28,21 +28,18 @@ loop-t-init c = (omega arith, refl, λ u l. absurd (omega arith))
 
 pub returns-then-cat-t : goal.returns-then-cat-t
 returns-then-cat-t c =
-    let i = c in
-    let l = i.loop-t in
-    sym (stored-bad _ l.t i.loop-t-test.true (place-wrong _ _ (λ e. c.if-cat-t.true (e ∙ sym l.invariant.1))))
+    let l = c.loop-t in
+    sym (stored-bad _ l.t c.loop-t-test.true (place-wrong _ _ (λ e. c.if-cat-t.true (e ∙ sym l.invariant.1))))
 
 pub returns-then-cat-t-2 : goal.returns-then-cat-t-2
 returns-then-cat-t-2 c =
-    let i = c in
-    sym (stored-bad _ i.loop-t.t i.loop-t-test.true (mask-wrong _ _ (λ e. c.if-cat-t-2.true (e ∙ sym c.touching_of.ensures))))
+    sym (stored-bad _ c.loop-t.t c.loop-t-test.true (mask-wrong _ _ (λ e. c.if-cat-t-2.true (e ∙ sym c.touching_of.ensures))))
 
 -- The sum with table t's cells.
 ends : (c : In-loop-t)
     → c.loop-t.at + count_of c.args.cat c.loop-t.t * ones (scheme_of c.args.cat c.loop-t.t) ≤ most_cells
 ends c =
-    let l = c in
-    omega (arith, l.loop-t.invariant.1, table-ends l.args.cat l.loop-t.t c.loop-t-test.true, l.requires.1)
+    omega (arith, c.loop-t.invariant.1, table-ends c.args.cat c.loop-t.t c.loop-t-test.true, c.requires.1)
 
 pub overflow_mul-at : goal.overflow_mul-at
 overflow_mul-at c = rw c.width.ensures (omega (arith, ends (goal.at.overflow_mul-at c).In-loop-t))
@@ -52,11 +49,10 @@ overflow_add-at c = rw c.width.ensures (omega (arith, ends (goal.at.overflow_add
 
 pub loop-t-preserved : goal.loop-t-preserved
 loop-t-preserved c =
-    let l = c in
-    let v = l.loop-t.invariant in (
+    let v = c.loop-t.invariant in (
       omega (arith, c.loop-t-test.true),
-      rw (c.width.ensures, cells-next l.args.cat l.loop-t.t, ← v.1),
-      right-next l.args.cat l.loop-t.t v.2
+      rw (c.width.ensures, cells-next c.args.cat c.loop-t.t, ← v.1),
+      right-next c.args.cat c.loop-t.t v.2
           (stored-right _ _ (c.if-cat-t.false ∙ v.1)
           (c.if-cat-t-2.false ∙ c.touching_of.ensures)),
     )

@@ -12,13 +12,11 @@ loop-t-init c = (omega arith, refl)
 
 pub overflow_add-sum : goal.overflow_add-sum
 overflow_add-sum c =
-    let s = c in
-    omega (arith, s.loop-t.invariant.1, rows_next s.args.cat s.loop-t.t, rows_few s.args.cat _ s.requires (s.loop-t.t + 1) (omega arith))
+    omega (arith, c.loop-t.invariant.1, rows_next c.args.cat c.loop-t.t, rows_few c.args.cat _ c.requires (c.loop-t.t + 1) (omega arith))
 
 pub loop-t-preserved : goal.loop-t-preserved
 loop-t-preserved c =
-    let s = c in
-    (omega arith, rw (rows_next s.args.cat s.loop-t.t, ← s.loop-t.invariant.1))
+    (omega arith, rw (rows_next c.args.cat c.loop-t.t, ← c.loop-t.invariant.1))
 
 pub returns : goal.returns
 returns c =

@@ -12,11 +12,9 @@ returns-then-u-t c = rw (touch-self _ _ _ c.if-u-t.true)
 
 pub returns-then-shared-eq0 : goal.returns-then-shared-eq0
 returns-then-shared-eq0 c =
-    let s = c in
-    rw (touch-apart s.args.cat s.args.t s.args.u c.if-u-t.false c.if-shared-eq0.true)
+    rw (touch-apart c.args.cat c.args.t c.args.u c.if-u-t.false c.if-shared-eq0.true)
 
 pub returns : goal.returns
 returns c =
-    let s = c in
-    let b : 1 * 2 ^ s.args.u % 2 ^ 16 ≡ 2 ^ s.args.u = mod-eq_of_lt (omega (arith, pow-lt s.requires.1)) ∙ omega arith in
-    rw (touch-both s.args.cat s.args.t s.args.u c.if-u-t.false c.if-shared-eq0.false) b
+    let b : 1 * 2 ^ c.args.u % 2 ^ 16 ≡ 2 ^ c.args.u = mod-eq_of_lt (omega (arith, pow-lt c.requires.1)) ∙ omega arith in
+    rw (touch-both c.args.cat c.args.t c.args.u c.if-u-t.false c.if-shared-eq0.false) b

@@ -22,9 +22,8 @@ few c = omega (arith, c.loop-u-test.true, c.requires.1)
 pub overflow_add-mask : goal.overflow_add-mask
 overflow_add-mask c =
     let l = c.loop-u in
-    let s = c in
-    rw (l.invariant.1, c.touch_bit-mask.ensures, ← touching-next s.args.cat s.args.t l.u)
-    (omega (arith, touching-lt s.args.cat s.args.t (l.u + 1), pow_mono (few c)))
+    rw (l.invariant.1, c.touch_bit-mask.ensures, ← touching-next c.args.cat c.args.t l.u)
+    (omega (arith, touching-lt c.args.cat c.args.t (l.u + 1), pow_mono (few c)))
 
 pub loop-u-preserved : goal.loop-u-preserved
 loop-u-preserved c =

@@ -22,14 +22,12 @@ loop-t-init c = (omega arith, λ u l. absurd (omega arith))
 
 pub returns-then-cat-t-gt-MOST_ROWS_ONE : goal.returns-then-cat-t-gt-MOST_ROWS_ONE
 returns-then-cat-t-gt-MOST_ROWS_ONE c =
-    let i = c in
-    sym (version-two _ (long-some _ i.loop-t.t i.loop-t-test.true c.if-cat-t-gt-MOST_ROWS_ONE.true))
+    sym (version-two _ (long-some _ c.loop-t.t c.loop-t-test.true c.if-cat-t-gt-MOST_ROWS_ONE.true))
 
 pub loop-t-preserved : goal.loop-t-preserved
 loop-t-preserved c =
-    let i = c in
-    let l = i.loop-t in
-    (omega (arith, i.loop-t-test.true), short-next i.args.cat l.t l.invariant.1 c.if-cat-t-gt-MOST_ROWS_ONE.false)
+    let l = c.loop-t in
+    (omega (arith, c.loop-t-test.true), short-next c.args.cat l.t l.invariant.1 c.if-cat-t-gt-MOST_ROWS_ONE.false)
 
 pub returns : goal.returns
 returns c =

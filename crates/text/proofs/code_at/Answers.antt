@@ -17,31 +17,27 @@ module _ (s : List ℕ) (at : ℕ) {r a : Fielded} (found : r ≡ field_at s at)
 pub returns-in-ToComma : goal.returns-in-ToComma
 unfolding code_of next_of
 returns-in-ToComma c =
-    let f = c in
-    let a = f.args in
+    let a = c.args in
     let k = c.in-ToComma.is in
-    record { code = code_is a.text.now a.at f.field_at.ensures k; next = next-is a.text.now a.at f.field_at.ensures k }
+    record { code = code_is a.text.now a.at c.field_at.ensures k; next = next-is a.text.now a.at c.field_at.ensures k }
 
 pub returns-in-ToLine : goal.returns-in-ToLine
 unfolding code_of next_of
 returns-in-ToLine c =
-    let f = c in
-    let a = f.args in
+    let a = c.args in
     let k = c.in-ToLine.is in
-    record { code = code_is a.text.now a.at f.field_at.ensures k; next = next-is a.text.now a.at f.field_at.ensures k }
+    record { code = code_is a.text.now a.at c.field_at.ensures k; next = next-is a.text.now a.at c.field_at.ensures k }
 
 pub returns-in-Nothing : goal.returns-in-Nothing
 unfolding code_of next_of
 returns-in-Nothing c =
-    let f = c in
-    let a = f.args in
+    let a = c.args in
     let k = c.in-Nothing.is in
-    record { code = code_is a.text.now a.at f.field_at.ensures k; next = next-is a.text.now a.at f.field_at.ensures k }
+    record { code = code_is a.text.now a.at c.field_at.ensures k; next = next-is a.text.now a.at c.field_at.ensures k }
 
 pub returns-in-OutsideHere : goal.returns-in-OutsideHere
 unfolding code_of next_of
 returns-in-OutsideHere c =
-    let f = c in
-    let a = f.args in
+    let a = c.args in
     let k = c.in-OutsideHere.is in
-    record { code = code_is a.text.now a.at f.field_at.ensures k; next = next-is a.text.now a.at f.field_at.ensures k }
+    record { code = code_is a.text.now a.at c.field_at.ensures k; next = next-is a.text.now a.at c.field_at.ensures k }

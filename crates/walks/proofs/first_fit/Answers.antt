@@ -39,7 +39,7 @@ module _ (shared a rest : ℕ) (l : LowestBit merged_length shared a) (q : rest 
 
 -- every shared attribute has a value where the walk begins
 values : (r : After-rises_at) → Values r.args.shared r.args.merged.now
-values r = let e = r in e.valued.ensures.0 (not-false _ e.if-not-valued.false-raw)
+values r = r.valued.ensures.0 (not-false _ r.if-not-valued.false-raw)
 
 -- the lowest, and the others
 low : (r : After-rises_at) → LowestBit merged_length r.args.shared r.lowest-a.result
@@ -54,15 +54,13 @@ first-here : (r : After-rises_at) → r.rises_at.result ≡ true
 first-here r h = omega (arith, (r.rises_at.ensures h).1)
 
 narrow : (r : After-rises_at) → r.args.w ≤ merged_length
-narrow r = let s = r in omega (arith, s.requires.0, ones-le merged_length _ s.ranges.scheme.fits)
+narrow r = omega (arith, r.requires.0, ones-le merged_length _ r.ranges.scheme.fits)
 
 pub returns-then-not-valued : goal.returns-then-not-valued
 returns-then-not-valued c =
-    let v = c in
-    let s = v in
     first-none _ _
-    (λ j. matches-null s.args.cells.now s.args.scheme (row_in s.args.base s.args.scheme j) s.args.merged.now s.args.shared s.ranges.shared.fits
-    (λ w. clash (v.valued.ensures.1 w) (not-true _ c.if-not-valued.true-raw)))
+    (λ j. matches-null c.args.cells.now c.args.scheme (row_in c.args.base c.args.scheme j) c.args.merged.now c.args.shared c.ranges.shared.fits
+    (λ w. clash (c.valued.ensures.1 w) (not-true _ c.if-not-valued.true-raw)))
 
 pub lowest-a-requires : goal.lowest-a-requires
 lowest-a-requires c = c.requires.3
@@ -74,34 +72,26 @@ pub rises_at-requires : goal.rises_at-requires
 rises_at-requires c = c.lowest-a.ensures.narrow
 
 pub first_rising-i-requires : goal.first_rising-i-requires
-first_rising-i-requires c =
-    let r = c in
-    let s = r in (
-      narrow (goal.at.first_rising-i-requires r).After-rises_at,
-      column _ s.args.scheme s.args.base s.args.count _ _ s.args.w s.requires.0 s.requires.1 (s.requires.2 _ (low (goal.at.first_rising-i-requires r).After-rises_at).itself) (first-here (goal.at.first_rising-i-requires r).After-rises_at c.if-rises_at.true),
-      widened _ _ _ _ _ s.requires.0 (s.requires.4 (r.rises_at.ensures c.if-rises_at.true).0),
-    )
+first_rising-i-requires c = (
+  narrow (goal.at.first_rising-i-requires c).After-rises_at,
+  column _ c.args.scheme c.args.base c.args.count _ _ c.args.w c.requires.0 c.requires.1 (c.requires.2 _ (low (goal.at.first_rising-i-requires c).After-rises_at).itself) (first-here (goal.at.first_rising-i-requires c).After-rises_at c.if-rises_at.true),
+  widened _ _ _ _ _ c.requires.0 (c.requires.4 (c.rises_at.ensures c.if-rises_at.true).0),
+)
 
 pub fit_from-requires : goal.fit_from-requires
-fit_from-requires c =
-    let t = c in
-    let r = t in
-    let s = r in (
-      s.requires.0,
-      s.requires.1,
-      column _ s.args.scheme s.args.base s.args.count _ _ s.args.w s.requires.0 s.requires.1 (s.requires.2 _ (low (goal.at.fit_from-requires r).After-rises_at).itself) (first-here (goal.at.fit_from-requires r).After-rises_at t.if-rises_at.true),
-      rest_under _ _ _ (low (goal.at.fit_from-requires r).After-rises_at) (others (goal.at.fit_from-requires r).After-rises_at) _ s.requires.2,
-      λ d b. values (goal.at.fit_from-requires r).After-rises_at d (rest_under _ _ _ (low (goal.at.fit_from-requires r).After-rises_at) (others (goal.at.fit_from-requires r).After-rises_at) _ (λ x y. y) d b),
-      λ h. widened _ _ _ _ _ s.requires.0 (s.requires.4 (r.rises_at.ensures t.if-rises_at.true).0),
-      c.first_rising-i.ensures,
-    )
+fit_from-requires c = (
+  c.requires.0,
+  c.requires.1,
+  column _ c.args.scheme c.args.base c.args.count _ _ c.args.w c.requires.0 c.requires.1 (c.requires.2 _ (low (goal.at.fit_from-requires c).After-rises_at).itself) (first-here (goal.at.fit_from-requires c).After-rises_at c.if-rises_at.true),
+  rest_under _ _ _ (low (goal.at.fit_from-requires c).After-rises_at) (others (goal.at.fit_from-requires c).After-rises_at) _ c.requires.2,
+  λ d b. values (goal.at.fit_from-requires c).After-rises_at d (rest_under _ _ _ (low (goal.at.fit_from-requires c).After-rises_at) (others (goal.at.fit_from-requires c).After-rises_at) _ (λ x y. y) d b),
+  λ h. widened _ _ _ _ _ c.requires.0 (c.requires.4 (c.rises_at.ensures c.if-rises_at.true).0),
+  c.first_rising-i.ensures,
+)
 
 pub returns-then-rises_at : goal.returns-then-rises_at
 returns-then-rises_at c =
-    let t = c in
-    let r = t in
-    let s = r in
-    rest-fitted _ _ _ (low (goal.at.returns-then-rises_at r).After-rises_at) (others (goal.at.returns-then-rises_at r).After-rises_at) _ _ _ _ _ _ (first-here (goal.at.returns-then-rises_at r).After-rises_at t.if-rises_at.true) s.requires.0 (values (goal.at.returns-then-rises_at r).After-rises_at _ (low (goal.at.returns-then-rises_at r).After-rises_at).itself) _ _ c.fit_from.ensures
+    rest-fitted _ _ _ (low (goal.at.returns-then-rises_at c).After-rises_at) (others (goal.at.returns-then-rises_at c).After-rises_at) _ _ _ _ _ _ (first-here (goal.at.returns-then-rises_at c).After-rises_at c.if-rises_at.true) c.requires.0 (values (goal.at.returns-then-rises_at c).After-rises_at _ (low (goal.at.returns-then-rises_at c).After-rises_at).itself) _ _ c.fit_from.ensures
 
 pub rank-requires : goal.rank-requires
 rank-requires c = c.lowest-a.ensures.narrow
@@ -109,14 +99,11 @@ rank-requires c = c.lowest-a.ensures.narrow
 -- the column of the lowest attribute
 abbrev Column : After-rank → Type 0
 Column c =
-    let s = c in
-    (s.args.base + c.rank.result) + s.args.count * s.args.w < length s.args.cells.now + s.args.w
+    (c.args.base + c.rank.result) + c.args.count * c.args.w < length c.args.cells.now + c.args.w
 
 walked : (c : After-rank) → Column c
 walked c =
-    let r = c in
-    let s = r in
-    column _ s.args.scheme s.args.base s.args.count _ _ s.args.w s.requires.0 s.requires.1 (s.requires.2 _ c.lowest-a.ensures.itself) (ap (λ (x : ℕ). s.args.base + x) c.rank.ensures)
+    column _ c.args.scheme c.args.base c.args.count _ _ c.args.w c.requires.0 c.requires.1 (c.requires.2 _ c.lowest-a.ensures.itself) (ap (λ (x : ℕ). c.args.base + x) c.rank.ensures)
 
 pub overflow_add-first : goal.overflow_add-first
 overflow_add-first c = omega (arith, walked c, narrow (goal.at.overflow_add-first c).After-rises_at)
@@ -125,22 +112,16 @@ pub next_equal-i-requires : goal.next_equal-i-requires
 next_equal-i-requires c = (omega arith, narrow (goal.at.next_equal-i-requires c).After-rises_at, walked c)
 
 pub fit_from-requires-2 : goal.fit_from-requires-2
-fit_from-requires-2 c =
-    let k = c in
-    let r = k in
-    let s = r in (
-      s.requires.0,
-      s.requires.1,
-      walked (goal.at.fit_from-requires-2 k).After-rank,
-      rest_under _ _ _ (low (goal.at.fit_from-requires-2 r).After-rises_at) (others (goal.at.fit_from-requires-2 r).After-rises_at) _ s.requires.2,
-      λ d b. values (goal.at.fit_from-requires-2 r).After-rises_at d (rest_under _ _ _ (low (goal.at.fit_from-requires-2 r).After-rises_at) (others (goal.at.fit_from-requires-2 r).After-rises_at) _ (λ x y. y) d b),
-      λ h. absurd (clash h refl),
-      c.next_equal-i.ensures,
-    )
+fit_from-requires-2 c = (
+  c.requires.0,
+  c.requires.1,
+  walked (goal.at.fit_from-requires-2 c).After-rank,
+  rest_under _ _ _ (low (goal.at.fit_from-requires-2 c).After-rises_at) (others (goal.at.fit_from-requires-2 c).After-rises_at) _ c.requires.2,
+  λ d b. values (goal.at.fit_from-requires-2 c).After-rises_at d (rest_under _ _ _ (low (goal.at.fit_from-requires-2 c).After-rises_at) (others (goal.at.fit_from-requires-2 c).After-rises_at) _ (λ x y. y) d b),
+  λ h. absurd (clash h refl),
+  c.next_equal-i.ensures,
+)
 
 pub returns : goal.returns
 returns c =
-    let k = c in
-    let r = k in
-    let s = r in
-    rest-fitted _ _ _ (low (goal.at.returns r).After-rises_at) (others (goal.at.returns r).After-rises_at) _ _ _ _ _ _ (ap (λ (x : ℕ). s.args.base + x) k.rank.ensures) s.requires.0 (values (goal.at.returns r).After-rises_at _ (low (goal.at.returns r).After-rises_at).itself) _ _ c.fit_from-2.ensures
+    rest-fitted _ _ _ (low (goal.at.returns c).After-rises_at) (others (goal.at.returns c).After-rises_at) _ _ _ _ _ _ (ap (λ (x : ℕ). c.args.base + x) c.rank.ensures) c.requires.0 (values (goal.at.returns c).After-rises_at _ (low (goal.at.returns c).After-rises_at).itself) _ _ c.fit_from-2.ensures

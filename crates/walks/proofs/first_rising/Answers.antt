@@ -11,8 +11,7 @@ use Rattle.walks.proofs.first_rising.Goals as goal
 -- the row that the halving comes to is there
 there : (c : Else-r-count) → c.args.first + c.first_row_at_least-r.result * c.args.w < length c.args.cells.now
 there c =
-    let s = c in
-    cell-inside s.args.first s.args.w _ s.args.count _ (omega (arith, c.first_row_at_least-r.ensures.within, c.if-r-count.false)) s.requires.1
+    cell-inside c.args.first c.args.w _ c.args.count _ (omega (arith, c.first_row_at_least-r.ensures.within, c.if-r-count.false)) c.requires.1
 
 pub returns-then-is_first_row : goal.returns-then-is_first_row
 returns-then-is_first_row c = c.is_first_row.ensures c.if-is_first_row.true
@@ -22,8 +21,7 @@ first_row_at_least-r-requires c = let p = c.requires in (omega arith, p.0, p.1, 
 
 pub returns-then-r-count : goal.returns-then-r-count
 returns-then-r-count c =
-    let f = c in
-    next-ended _ _ _ _ f.requires.2 _ _ _ f.first_row_at_least-r.ensures c.if-r-count.true
+    next-ended _ _ _ _ c.requires.2 _ _ _ c.first_row_at_least-r.ensures c.if-r-count.true
 
 pub overflow_mul-r : goal.overflow_mul-r
 overflow_mul-r c = omega (arith, there c)
@@ -39,10 +37,8 @@ bounds-cells-first c = there (goal.at.bounds-cells-first c).Else-r-count
 
 pub returns-then-cells-first : goal.returns-then-cells-first
 returns-then-cells-first c =
-    let o = c in
-    next-found _ _ _ _ o.requires.2 _ _ _ o.first_row_at_least-r.ensures c.if-cells-first.true
+    next-found _ _ _ _ c.requires.2 _ _ _ c.first_row_at_least-r.ensures c.if-cells-first.true
 
 pub returns : goal.returns
 returns c =
-    let o = c in
-    next-missed _ _ _ _ o.requires.2 _ _ _ o.first_row_at_least-r.ensures o.if-r-count.false c.if-cells-first.false
+    next-missed _ _ _ _ c.requires.2 _ _ _ c.first_row_at_least-r.ensures c.if-r-count.false c.if-cells-first.false

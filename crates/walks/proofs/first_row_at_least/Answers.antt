@@ -17,9 +17,8 @@ inside : (c : In-loop-left)
     → c.args.first + middle c.loop-left.from c.loop-left.left * c.args.w
     < length c.args.cells.now
 inside c =
-    let s = c in
     let l = c.loop-left in
-    cell-inside s.args.first s.args.w (middle l.from l.left) s.args.count _ (omega (arith, l.invariant.within, c.loop-left-test.true)) s.requires.2
+    cell-inside c.args.first c.args.w (middle l.from l.left) c.args.count _ (omega (arith, l.invariant.within, c.loop-left-test.true)) c.requires.2
 
 pub loop-left-init : goal.loop-left-init
 loop-left-init c = halving-start _ _ _ _ _ _ c.requires.0
@@ -50,11 +49,9 @@ loop-left-smaller c = omega (arith, c.loop-left-test.true)
 
 pub loop-left-preserved : goal.loop-left-preserved
 loop-left-preserved c =
-    let t = c in
-    let l = t.loop-left in
-    let s = t in
-    halving-next s.args.cells.now s.args.first s.args.w s.args.count s.requires.3 s.args.wanted _ l.from l.left (l.left - l.left / 2) (l.left / 2) (middle l.from l.left) _
-    l.invariant (omega arith) (omega arith) (omega (arith, t.loop-left-test.true)) c.past-from.ensures
+    let l = c.loop-left in
+    halving-next c.args.cells.now c.args.first c.args.w c.args.count c.requires.3 c.args.wanted _ l.from l.left (l.left - l.left / 2) (l.left / 2) (middle l.from l.left) _
+    l.invariant (omega arith) (omega arith) (omega (arith, c.loop-left-test.true)) c.past-from.ensures
 
 pub returns : goal.returns
 returns c =

@@ -37,18 +37,15 @@ room base w o i k lent e l h = rw e (start-inside base o i k lent l h)
 inside : (c : In-loop-i)
     → (c.args.base + c.loop-i.i * c.args.w) + ones c.args.scheme ≤ length c.args.cells.now
 inside c =
-    let s = c in
-    room s.args.base s.args.w (ones s.args.scheme) _ _ _ s.requires.0 c.loop-i-test.true s.requires.1
+    room c.args.base c.args.w (ones c.args.scheme) _ _ _ c.requires.0 c.loop-i-test.true c.requires.1
 
 -- and what the comparison says of it is whether it fits
 answer : (c : After-fits_placed)
     → fits_at c.args.cells.now c.args.first c.args.w c.args.wanted c.args.scheme c.args.base c.args.mask c.args.merged.now c.loop-i.i ≡ c.fits_placed.result
 answer c =
-    let o = c in
-    let s = o in
-    fits-coded _ _ _ _ _ _ _ _ _ (o.loop-i.invariant.code c.loop-i-test.true)
-    ∙ sym (c.fits_placed.ensures _ o.places_of-places.ensures
-    ∙ ap (λ (x : ℕ). matches s.args.cells.now s.args.scheme (s.args.base + o.loop-i.i * x) s.args.mask s.args.merged.now) s.requires.0)
+    fits-coded _ _ _ _ _ _ _ _ _ (c.loop-i.invariant.code c.loop-i-test.true)
+    ∙ sym (c.fits_placed.ensures _ c.places_of-places.ensures
+    ∙ ap (λ (x : ℕ). matches c.args.cells.now c.args.scheme (c.args.base + c.loop-i.i * x) c.args.mask c.args.merged.now) c.requires.0)
 
 pub overflow_mul-i : goal.overflow_mul-i
 overflow_mul-i c = omega (arith, inside c)
@@ -58,9 +55,7 @@ overflow_add-base c = omega (arith, inside c)
 
 pub fits_placed-requires : goal.fits_placed-requires
 fits_placed-requires c =
-    let o = c in
-    let s = o in
-    (λ d b. rw (o.places_of-places.ensures.each d b) (code_inside s.args.scheme _ _ d (inside (goal.at.fits_placed-requires c).In-loop-i) (s.requires.3 d b)), s.requires.4)
+    (λ d b. rw (c.places_of-places.ensures.each d b) (code_inside c.args.scheme _ _ d (inside (goal.at.fits_placed-requires c).In-loop-i) (c.requires.3 d b)), c.requires.4)
 
 pub returns-then-fits_placed : goal.returns-then-fits_placed
 returns-then-fits_placed c =
@@ -71,23 +66,19 @@ pub overflow_add-i : goal.overflow_add-i
 overflow_add-i c = omega (arith, c.loop-i-test.true)
 
 pub next_row-i-requires : goal.next_row-i-requires
-next_row-i-requires c =
-    let i = c in
-    let o = i in
-    let s = o in (
-      omega (arith, i.loop-i-test.true),
-      omega (arith, s.requires.0, ones-le merged_length _ s.ranges.scheme.fits),
-      s.requires.2,
-      λ h. (s.requires.5 h, λ b. omega (arith, (s.requires.5 h).each o.loop-i.i (o.loop-i.i + 1) (omega arith) b, o.loop-i.invariant.code i.loop-i-test.true)),
-    )
+next_row-i-requires c = (
+  omega (arith, c.loop-i-test.true),
+  omega (arith, c.requires.0, ones-le merged_length _ c.ranges.scheme.fits),
+  c.requires.2,
+  λ h. (c.requires.5 h, λ b. omega (arith, (c.requires.5 h).each c.loop-i.i (c.loop-i.i + 1) (omega arith) b, c.loop-i.invariant.code c.loop-i-test.true)),
+)
 
 pub loop-i-smaller : goal.loop-i-smaller
 loop-i-smaller c = omega (arith, c.next_row-i.ensures.from, c.loop-i-test.true)
 
 pub loop-i-preserved : goal.loop-i-preserved
 loop-i-preserved c =
-    let o = c in
-    walk-next _ _ _ _ _ _ _ _ _ _ _ (below_more _ _ o.loop-i.invariant.before (answer (goal.at.loop-i-preserved c).After-fits_placed ∙ c.if-fits_placed.false)) c.next_row-i.ensures
+    walk-next _ _ _ _ _ _ _ _ _ _ _ (below_more _ _ c.loop-i.invariant.before (answer (goal.at.loop-i-preserved c).After-fits_placed ∙ c.if-fits_placed.false)) c.next_row-i.ensures
 
 pub returns : goal.returns
-returns c = let o = c in walk_end _ _ _ _ _ _ _ o.loop-i.invariant (omega (arith, o.loop-i.invariant.within, c.loop-i-test.false))
+returns c = walk_end _ _ _ _ _ _ _ c.loop-i.invariant (omega (arith, c.loop-i.invariant.within, c.loop-i-test.false))

@@ -24,8 +24,7 @@ own : (c : After-lowest-a) (scheme : ℕ)
     (c.args.start + get_or c.args.places.now c.lowest-a.result 0) 0
     ≡ code_at c.args.cells.now scheme c.args.start c.lowest-a.result
 own c scheme p =
-    let s = c in
-    placed-code scheme _ _ p s.args.cells.now s.args.start c.lowest-a.result (c.loop-rest.invariant.1 _ c.lowest-a.ensures.itself)
+    placed-code scheme _ _ p c.args.cells.now c.args.start c.lowest-a.result (c.loop-rest.invariant.1 _ c.lowest-a.ensures.itself)
 
 pub loop-rest-init : goal.loop-rest-init
 loop-rest-init c = (λ scheme p. refl, λ a b. b)
@@ -44,23 +43,20 @@ bounds-cells-start c = inside (goal.at.bounds-cells-start c).After-lowest-a
 
 pub returns-then-merged-a : goal.returns-then-merged-a
 returns-then-merged-a c scheme p =
-    let l = c in
-    sym (l.loop-rest.invariant.0 scheme p ∙ matches-bad _ _ _ _ _ _ l.lowest-a.ensures (λ s. c.if-merged-a.true (s.1 ∙ sym (own (goal.at.returns-then-merged-a l).After-lowest-a scheme p))))
+    sym (c.loop-rest.invariant.0 scheme p ∙ matches-bad _ _ _ _ _ _ c.lowest-a.ensures (λ s. c.if-merged-a.true (s.1 ∙ sym (own (goal.at.returns-then-merged-a c).After-lowest-a scheme p))))
 
 pub loop-rest-smaller : goal.loop-rest-smaller
 loop-rest-smaller c =
-    let l = c in
-    rw (c.without_lowest-rest.ensures _ l.lowest-a.ensures) (bit-fewer _ _ l.lowest-a.ensures)
+    rw (c.without_lowest-rest.ensures _ c.lowest-a.ensures) (bit-fewer _ _ c.lowest-a.ensures)
 
 pub loop-rest-preserved : goal.loop-rest-preserved
 loop-rest-preserved c =
-    let l = c in
-    let v = l.loop-rest.invariant in
-    rw (c.without_lowest-rest.ensures _ l.lowest-a.ensures) (
+    let v = c.loop-rest.invariant in
+    rw (c.without_lowest-rest.ensures _ c.lowest-a.ensures) (
       λ scheme p.
-          v.0 scheme p ∙ matches-more _ _ _ _ _ _ l.lowest-a.ensures
-          (l.requires.1 _ (v.1 _ l.lowest-a.ensures.itself), c.if-merged-a.false ∙ own (goal.at.loop-rest-preserved l).After-lowest-a scheme p),
-      under-less _ _ l.lowest-a.ensures _ v.1,
+          v.0 scheme p ∙ matches-more _ _ _ _ _ _ c.lowest-a.ensures
+          (c.requires.1 _ (v.1 _ c.lowest-a.ensures.itself), c.if-merged-a.false ∙ own (goal.at.loop-rest-preserved c).After-lowest-a scheme p),
+      under-less _ _ c.lowest-a.ensures _ v.1,
     )
 
 pub returns : goal.returns

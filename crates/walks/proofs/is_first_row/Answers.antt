@@ -37,9 +37,7 @@ returns-then-cells-first c h = absurd (clash h refl)
 
 pub returns-then-near-eq0 : goal.returns-then-near-eq0
 returns-then-near-eq0 c h =
-    let e = c in
-    let s = e in
-    next-least _ _ _ _ s.requires.2 _ _ (omega (arith, e.if-count-near.false)) c.if-cells-first.false (λ l. absurd (omega (arith, l, c.if-near-eq0.true)))
+    next-least _ _ _ _ c.requires.2 _ _ (omega (arith, c.if-count-near.false)) c.if-cells-first.false (λ l. absurd (omega (arith, l, c.if-near-eq0.true)))
 
 pub overflow_mul-result : goal.overflow_mul-result
 overflow_mul-result c = omega (arith, last (goal.at.overflow_mul-result c).Else-count-near)
@@ -55,6 +53,4 @@ bounds-cells-first-2 c = last (goal.at.bounds-cells-first-2 c).Else-count-near
 
 pub returns : goal.returns
 returns c h =
-    let e = c in
-    let s = e in
-    next-least _ _ _ _ s.requires.2 _ _ (omega (arith, e.if-count-near.false)) c.if-cells-first.false (λ l. ltb-true _ _ h)
+    next-least _ _ _ _ c.requires.2 _ _ (omega (arith, c.if-count-near.false)) c.if-cells-first.false (λ l. ltb-true _ _ h)

@@ -10,11 +10,9 @@ returns-then-not-seen c = rw (not-true c.args.seen c.if-not-seen.true-raw)
 pub returns-then-old-code : goal.returns-then-old-code
 unfolding joint
 returns-then-old-code c =
-    let s = c in
-    rw (not-false s.args.seen c.if-not-seen.false-raw, eq-eqb s.args.old s.args.code c.if-old-code.true)
+    rw (not-false c.args.seen c.if-not-seen.false-raw, eq-eqb c.args.old c.args.code c.if-old-code.true)
 
 pub returns : goal.returns
 unfolding joint
 returns c =
-    let s = c in
-    rw (not-false s.args.seen c.if-not-seen.false-raw, ne_eqb s.args.old s.args.code c.if-old-code.false)
+    rw (not-false c.args.seen c.if-not-seen.false-raw, ne_eqb c.args.old c.args.code c.if-old-code.false)

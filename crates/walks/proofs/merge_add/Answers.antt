@@ -18,7 +18,7 @@ pub overflow_add-start : goal.overflow_add-start
 overflow_add-start c = omega (arith, room (goal.at.overflow_add-start c).Start)
 
 pub merge_row-requires : goal.merge_row-requires
-merge_row-requires c = let s = c in (room (goal.at.merge_row-requires s).Start, s.requires.3)
+merge_row-requires c = (room (goal.at.merge_row-requires c).Start, c.requires.3)
 
 pub returns : goal.returns
 returns c = record { attributes = refl; joined = rw (← c.requires.0) c.merge_row.ensures }

@@ -22,8 +22,7 @@ here c = cursor-here _ _ _ _ _ _ c.loop-rest.invariant.1 c.lowest-a.ensures
 -- and so among the cells.
 inside : (c : After-lowest-a) → c.loop-rest.place < length c.args.cells.now
 inside c =
-    let s = c in
-    rw (here c) (code_inside _ _ _ _ s.requires.0 (c.loop-rest.invariant.0.part _ c.lowest-a.ensures.itself))
+    rw (here c) (code_inside _ _ _ _ c.requires.0 (c.loop-rest.invariant.0.part _ c.lowest-a.ensures.itself))
 
 pub offset_bounds-cells-place : goal.offset_bounds-cells-place
 offset_bounds-cells-place c = omega (arith, inside c)
@@ -36,16 +35,14 @@ overflow_add-place c = omega (arith, inside (goal.at.overflow_add-place c).After
 
 pub loop-rest-smaller : goal.loop-rest-smaller
 loop-rest-smaller c =
-    let l = c in
-    rw (c.without_lowest-rest.ensures _ l.lowest-a.ensures) (bit-fewer _ _ l.lowest-a.ensures)
+    rw (c.without_lowest-rest.ensures _ c.lowest-a.ensures) (bit-fewer _ _ c.lowest-a.ensures)
 
 pub loop-rest-preserved : goal.loop-rest-preserved
 loop-rest-preserved c =
-    let l = c in
-    let v = l.loop-rest.invariant in
-    rw (c.without_lowest-rest.ensures _ l.lowest-a.ensures) (
-      merge-next _ _ _ _ _ _ _ _ _ v.0 l.lowest-a.ensures (rw (← c.bit_of-seen.ensures, ← here (goal.at.loop-rest-preserved l).After-lowest-a) c.join_code.ensures),
-      cursor-next _ _ _ _ _ _ v.1 l.lowest-a.ensures,
+    let v = c.loop-rest.invariant in
+    rw (c.without_lowest-rest.ensures _ c.lowest-a.ensures) (
+      merge-next _ _ _ _ _ _ _ _ _ v.0 c.lowest-a.ensures (rw (← c.bit_of-seen.ensures, ← here (goal.at.loop-rest-preserved c).After-lowest-a) c.join_code.ensures),
+      cursor-next _ _ _ _ _ _ v.1 c.lowest-a.ensures,
     )
 
 pub returns : goal.returns

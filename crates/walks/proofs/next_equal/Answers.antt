@@ -12,12 +12,11 @@ use Rattle.walks.proofs.next_equal.Goals as goal
 -- row r's cell is there
 inside : (c : In-loop-r) → c.loop-r.place < length c.args.cells.now
 inside c =
-    let s = c in
     omega (
       arith,
       c.loop-r.invariant.2,
-      s.requires.2,
-      start-inside s.args.first s.args.w c.loop-r.r s.args.count (s.args.first + s.args.count * s.args.w) c.loop-r-test.true (omega arith),
+      c.requires.2,
+      start-inside c.args.first c.args.w c.loop-r.r c.args.count (c.args.first + c.args.count * c.args.w) c.loop-r-test.true (omega arith),
     )
 
 pub overflow_mul-place : goal.overflow_mul-place
@@ -45,12 +44,10 @@ overflow_add-place-in-loop-r c = omega (arith, inside (goal.at.overflow_add-plac
 
 pub loop-r-preserved : goal.loop-r-preserved
 loop-r-preserved c =
-    let l = c in
-    let s = l in
-    let v = l.loop-r.invariant in (
+    let v = c.loop-r.invariant in (
       omega (arith, v.0),
       omega (arith, c.loop-r-test.true),
-      omega (arith, v.2, start-next s.args.first s.args.w l.loop-r.r),
+      omega (arith, v.2, start-next c.args.first c.args.w c.loop-r.r),
       below_more _ _ v.3 (λ b. rw (← v.2) c.if-cells-place.false),
     )
 

@@ -11,8 +11,7 @@ use Rattle.walks.proofs.next_row.Goals as goal
 -- row i's cell is there
 here : (c : Else-i-count) → c.args.first + c.args.i * c.args.w < length c.args.cells.now
 here c =
-    let s = c in
-    cell-inside s.args.first s.args.w _ s.args.count _ (omega (arith, s.requires.0, c.if-i-count.false)) s.requires.2
+    cell-inside c.args.first c.args.w _ c.args.count _ (omega (arith, c.requires.0, c.if-i-count.false)) c.requires.2
 
 pub next_equal-requires : goal.next_equal-requires
 next_equal-requires c = let p = c.requires in (p.0, p.1, p.2)
@@ -22,9 +21,7 @@ returns-then-not-rising c = c.next_equal.ensures
 
 pub returns-then-i-count : goal.returns-then-i-count
 returns-then-i-count c =
-    let e = c in
-    let s = e in
-    next-none _ _ _ _ (s.requires.3 (not-false _ e.if-not-rising.false-raw)).0 _ _ c.if-i-count.true
+    next-none _ _ _ _ (c.requires.3 (not-false _ c.if-not-rising.false-raw)).0 _ _ c.if-i-count.true
 
 pub overflow_mul-i : goal.overflow_mul-i
 overflow_mul-i c = omega (arith, here c)
@@ -40,14 +37,9 @@ bounds-cells-first c = here (goal.at.bounds-cells-first c).Else-i-count
 
 pub returns-then-cells-first : goal.returns-then-cells-first
 returns-then-cells-first c =
-    let e = c in
-    let s = e in
-    next_here _ _ _ _ (s.requires.3 (not-false _ e.if-not-rising.false-raw)).0 _ _ s.requires.0 c.if-cells-first.true
+    next_here _ _ _ _ (c.requires.3 (not-false _ c.if-not-rising.false-raw)).0 _ _ c.requires.0 c.if-cells-first.true
 
 pub returns : goal.returns
 returns c =
-    let o = c in
-    let e = o in
-    let s = e in
-    let k = s.requires.3 (not-false _ e.if-not-rising.false-raw) in
-    next-over _ _ _ _ k.0 _ _ s.requires.0 (omega (arith, k.1 (omega (arith, s.requires.0, o.if-i-count.false)), c.if-cells-first.false))
+    let k = c.requires.3 (not-false _ c.if-not-rising.false-raw) in
+    next-over _ _ _ _ k.0 _ _ c.requires.0 (omega (arith, k.1 (omega (arith, c.requires.0, c.if-i-count.false)), c.if-cells-first.false))

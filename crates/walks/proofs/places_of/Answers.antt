@@ -13,13 +13,11 @@ overflow_cast-places c = omega (arith, c.rank.ensures, rank-few c.args.scheme _ 
 
 pub loop-rest-smaller : goal.loop-rest-smaller
 loop-rest-smaller c =
-    let l = c in
-    rw (c.without_lowest-rest.ensures _ l.lowest-a.ensures) (bit-fewer _ _ l.lowest-a.ensures)
+    rw (c.without_lowest-rest.ensures _ c.lowest-a.ensures) (bit-fewer _ _ c.lowest-a.ensures)
 
 pub loop-rest-preserved : goal.loop-rest-preserved
 loop-rest-preserved c =
-    let l = c in
-    rw (c.without_lowest-rest.ensures _ l.lowest-a.ensures) (place-next _ _ _ _ _ _ l.loop-rest.invariant l.lowest-a.ensures c.rank.ensures)
+    rw (c.without_lowest-rest.ensures _ c.lowest-a.ensures) (place-next _ _ _ _ _ _ c.loop-rest.invariant c.lowest-a.ensures c.rank.ensures)
 
 pub returns : goal.returns
 returns c = place_end _ _ _ (rw c.loop-rest-test.false at c.loop-rest.invariant)

@@ -12,8 +12,7 @@ use Rattle.walks.proofs.rises.Goals as goal
 -- row r's cell is there
 inside : (c : In-loop-r) → c.loop-r.place < length c.args.cells.now
 inside c =
-    let s = c in
-    rw c.loop-r.invariant.1 (cell-inside s.args.first s.args.w c.loop-r.r s.args.count _ c.loop-r-test.true s.requires.1)
+    rw c.loop-r.invariant.1 (cell-inside c.args.first c.args.w c.loop-r.r c.args.count _ c.loop-r-test.true c.requires.1)
 
 pub loop-r-init : goal.loop-r-init
 loop-r-init c = (omega arith, omega arith, risen-none _ _ _ _)
@@ -32,12 +31,10 @@ overflow_add-place c = omega (arith, inside (goal.at.overflow_add-place c).In-lo
 
 pub loop-r-preserved : goal.loop-r-preserved
 loop-r-preserved c =
-    let l = c in
-    let s = l in
-    let v = l.loop-r.invariant in (
+    let v = c.loop-r.invariant in (
       omega (arith, c.loop-r-test.true),
-      omega (arith, v.1, start-next s.args.first s.args.w l.loop-r.r),
-      risen-next s.args.cells.now s.args.first s.args.w _ _ _ v.2 (ap (λ (x : ℕ). get_or s.args.cells.now x 0) v.1) (omega (arith, c.if-code-last.false)),
+      omega (arith, v.1, start-next c.args.first c.args.w c.loop-r.r),
+      risen-next c.args.cells.now c.args.first c.args.w _ _ _ v.2 (ap (λ (x : ℕ). get_or c.args.cells.now x 0) v.1) (omega (arith, c.if-code-last.false)),
     )
 
 pub returns : goal.returns

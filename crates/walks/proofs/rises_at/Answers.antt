@@ -11,9 +11,8 @@ pub returns-then-not-rising : goal.returns-then-not-rising
 returns-then-not-rising c h = absurd (clash h refl)
 
 pub nonzero_rem-result : goal.nonzero_rem-result
-nonzero_rem-result c = let s = c in rw (one_shl s.args.a s.requires) (pow_pos _)
+nonzero_rem-result c = rw (one_shl c.args.a c.requires) (pow_pos _)
 
 pub returns : goal.returns
 returns c h =
-    let s = c in
-    (not-false _ c.if-not-rising.false-raw, sym (rank-none s.args.scheme s.args.a (rw (one_shl s.args.a s.requires) at (eqb-true (s.args.scheme % (1 * 2 ^ s.args.a % 2 ^ 64)) 0 h))))
+    (not-false _ c.if-not-rising.false-raw, sym (rank-none c.args.scheme c.args.a (rw (one_shl c.args.a c.requires) at (eqb-true (c.args.scheme % (1 * 2 ^ c.args.a % 2 ^ 64)) 0 h))))

@@ -13,9 +13,7 @@ use Rattle.walks.proofs.row_fits.Goals as goal
 inside : (c : After-rank)
     → c.args.start + c.rank.result < length c.args.cells.now
 inside c =
-    let l = c in
-    let s = l in
-    rw c.rank.ensures (code_inside s.args.scheme _ _ _ s.requires.0 (s.requires.1 _ (l.loop-rest.invariant.1 _ l.lowest-a.ensures.itself)))
+    rw c.rank.ensures (code_inside c.args.scheme _ _ _ c.requires.0 (c.requires.1 _ (c.loop-rest.invariant.1 _ c.lowest-a.ensures.itself)))
 
 -- and what is read from it is the row's code
 own : (c : After-rank)
@@ -23,16 +21,14 @@ own : (c : After-rank)
     ≡ code_at c.args.cells.now c.args.scheme
     c.args.start c.lowest-a.result
 own c =
-    let s = c in
-    ap (λ (x : ℕ). get_or s.args.cells.now (s.args.start + x) 0) c.rank.ensures
+    ap (λ (x : ℕ). get_or c.args.cells.now (c.args.start + x) 0) c.rank.ensures
 
 pub loop-rest-init : goal.loop-rest-init
 loop-rest-init c = (refl, λ a b. b)
 
 pub returns-then-wanted-eq0 : goal.returns-then-wanted-eq0
 returns-then-wanted-eq0 c =
-    let l = c in
-    sym (l.loop-rest.invariant.0 ∙ matches-bad _ _ _ _ _ _ l.lowest-a.ensures (λ s. omega (arith, s.0, c.if-wanted-eq0.true)))
+    sym (c.loop-rest.invariant.0 ∙ matches-bad _ _ _ _ _ _ c.lowest-a.ensures (λ s. omega (arith, s.0, c.if-wanted-eq0.true)))
 
 pub overflow_add-start : goal.overflow_add-start
 overflow_add-start c = omega (arith, inside c)
@@ -45,26 +41,21 @@ bounds-cells-start c = inside (goal.at.bounds-cells-start c).After-rank
 
 pub returns-then-cells-start : goal.returns-then-cells-start
 returns-then-cells-start c =
-    let k = c in
-    let l = k in
-    sym (l.loop-rest.invariant.0 ∙ matches-bad _ _ _ _ _ _ l.lowest-a.ensures (λ s. c.if-cells-start.true (own (goal.at.returns-then-cells-start k).After-rank ∙ sym s.1)))
+    sym (c.loop-rest.invariant.0 ∙ matches-bad _ _ _ _ _ _ c.lowest-a.ensures (λ s. c.if-cells-start.true (own (goal.at.returns-then-cells-start c).After-rank ∙ sym s.1)))
 
 pub without_lowest-rest-requires : goal.without_lowest-rest-requires
 without_lowest-rest-requires c = omega (arith, c.loop-rest-test.true)
 
 pub loop-rest-smaller : goal.loop-rest-smaller
 loop-rest-smaller c =
-    let l = c in
-    rw (c.without_lowest-rest.ensures _ l.lowest-a.ensures) (bit-fewer _ _ l.lowest-a.ensures)
+    rw (c.without_lowest-rest.ensures _ c.lowest-a.ensures) (bit-fewer _ _ c.lowest-a.ensures)
 
 pub loop-rest-preserved : goal.loop-rest-preserved
 loop-rest-preserved c =
-    let k = c in
-    let l = k in
-    let v = l.loop-rest.invariant in
-    rw (c.without_lowest-rest.ensures _ l.lowest-a.ensures) (
-      v.0 ∙ matches-more _ _ _ _ _ _ l.lowest-a.ensures (omega (arith, k.if-wanted-eq0.false), sym c.if-cells-start.false ∙ own (goal.at.loop-rest-preserved k).After-rank),
-      under-less _ _ l.lowest-a.ensures _ v.1,
+    let v = c.loop-rest.invariant in
+    rw (c.without_lowest-rest.ensures _ c.lowest-a.ensures) (
+      v.0 ∙ matches-more _ _ _ _ _ _ c.lowest-a.ensures (omega (arith, c.if-wanted-eq0.false), sym c.if-cells-start.false ∙ own (goal.at.loop-rest-preserved c).After-rank),
+      under-less _ _ c.lowest-a.ensures _ v.1,
     )
 
 pub returns : goal.returns

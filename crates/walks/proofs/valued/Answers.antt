@@ -11,24 +11,21 @@ pub loop-rest-init : goal.loop-rest-init
 loop-rest-init c = (λ v. v, λ a b. b)
 
 pub returns-then-merged-a-eq0 : goal.returns-then-merged-a-eq0
-returns-then-merged-a-eq0 c =
-    let l = c in (
-      λ e. absurd (clash e refl),
-      λ v. absurd (omega (arith, c.if-merged-a-eq0.true, v _ (l.loop-rest.invariant.1 _ l.lowest-a.ensures.itself))),
-    )
+returns-then-merged-a-eq0 c = (
+  λ e. absurd (clash e refl),
+  λ v. absurd (omega (arith, c.if-merged-a-eq0.true, v _ (c.loop-rest.invariant.1 _ c.lowest-a.ensures.itself))),
+)
 
 pub loop-rest-smaller : goal.loop-rest-smaller
 loop-rest-smaller c =
-    let l = c in
-    rw (c.without_lowest-rest.ensures _ l.lowest-a.ensures) (bit-fewer _ _ l.lowest-a.ensures)
+    rw (c.without_lowest-rest.ensures _ c.lowest-a.ensures) (bit-fewer _ _ c.lowest-a.ensures)
 
 pub loop-rest-preserved : goal.loop-rest-preserved
 loop-rest-preserved c =
-    let l = c in
-    let v = l.loop-rest.invariant in
-    rw (c.without_lowest-rest.ensures _ l.lowest-a.ensures) (
-      λ r. v.0 (values-more _ _ l.lowest-a.ensures l.args.merged.now c.if-merged-a-eq0.false r),
-      under-less _ _ l.lowest-a.ensures _ v.1,
+    let v = c.loop-rest.invariant in
+    rw (c.without_lowest-rest.ensures _ c.lowest-a.ensures) (
+      λ r. v.0 (values-more _ _ c.lowest-a.ensures c.args.merged.now c.if-merged-a-eq0.false r),
+      under-less _ _ c.lowest-a.ensures _ v.1,
     )
 
 pub returns : goal.returns

@@ -9,14 +9,14 @@ use Rattle.abi.proofs.ListCallLaws.{list-enough, list-short, list_done}
 use Rattle.abi.proofs.lists.harbour_check_list.Goals.{Else-list_short}
 use Rattle.abi.proofs.lists.harbour_check_list.Goals as goal
 
-enough : (c : Else-list_short) → let s = c in list_short s.args.catalogue.now s.args.res.now ≡ false
+enough : (c : Else-list_short) → list_short c.args.catalogue.now c.args.res.now ≡ false
 enough c = sym c.list_short.ensures ∙ c.if-list_short.false
 
 pub returns-then-list_short : goal.returns-then-list_short
 returns-then-list_short c = list-short _ _ _ _ _ (sym c.list_short.ensures ∙ c.if-list_short.true)
 
 pub catalogue_in-cat-requires : goal.catalogue_in-cat-requires
-catalogue_in-cat-requires c = let s = c in (list-enough _ s.args.cells.now s.args.listed_low.now s.args.listed_high.now _ (enough c)).0
+catalogue_in-cat-requires c = (list-enough _ c.args.cells.now c.args.listed_low.now c.args.listed_high.now _ (enough c)).0
 
 pub bounds-res-0 : goal.bounds-res-0
 bounds-res-0 c =
@@ -28,7 +28,6 @@ bounds-res-1 c =
 
 pub returns : goal.returns
 returns c =
-    let s = c in
-    list_done s.args.catalogue.now s.args.cells.now s.args.listed_low.now s.args.listed_high.now s.args.res.now c.catalogue_in-cat.result c.check_list-verdict.result _ _
+    list_done c.args.catalogue.now c.args.cells.now c.args.listed_low.now c.args.listed_high.now c.args.res.now c.catalogue_in-cat.result c.check_list-verdict.result _ _
     (enough (goal.at.returns c).Else-list_short) c.catalogue_in-cat.ensures c.check_list-verdict.ensures c.number_of.ensures
-    (ap₂ (λ (x y : ℕ). set (set s.args.res.now 0 x) 1 y) c.first_named.ensures c.second_named.ensures)
+    (ap₂ (λ (x y : ℕ). set (set c.args.res.now 0 x) 1 y) c.first_named.ensures c.second_named.ensures)

@@ -33,14 +33,13 @@ put_result-requires c = (next-enough record_words _ _ _ (enough (goal.at.put_res
 
 pub returns : goal.returns
 returns c =
-    let o = c in
-    let a = o.args in
-    let s = o.record_in-before in
-    let r = o.step-r.result in
-    next-done _ _ _ _ _ _ _ _ _ every_set r _ _ _ _ _ _ _ _ (enough (goal.at.returns o).Else-next_short)
-    (o.step-r.ensures
+    let a = c.args in
+    let s = c.record_in-before in
+    let r = c.step-r.result in
+    next-done _ _ _ _ _ _ _ _ _ every_set r _ _ _ _ _ _ _ _ (enough (goal.at.returns c).Else-next_short)
+    (c.step-r.ensures
     ∙ ap (λ (x : Catalogue). call x a.cells.now a.budget (state_of s.result a.low.now a.high.now a.left.now a.right.now) a.padded.now)
-    o.catalogue_in-cat.ensures
+    c.catalogue_in-cat.ensures
     ∙ ap (λ (x : StreamRecord). call (catalogue_in a.catalogue.now) a.cells.now a.budget (state_of x a.low.now a.high.now a.left.now a.right.now) a.padded.now)
     s.ensures)
     c.number_of.ensures c.put_record.ensures c.put_result.ensures

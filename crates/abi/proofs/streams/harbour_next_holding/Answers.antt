@@ -32,14 +32,13 @@ put_result-requires c = (next-enough holding_words _ _ _ (enough (goal.at.put_re
 
 pub returns : goal.returns
 returns c =
-    let o = c in
-    let a = o.args in
-    let s = o.holding_in-before in
-    let r = o.step_holding-r.result in
-    next-done _ _ _ _ _ _ _ _ _ (held_by r.stream) (record { answer = r.answer; key = r.key; trials = r.trials; tests = r.tests; looks = r.looks; stream = r.stream.stream }) _ _ _ _ _ _ _ _ (enough (goal.at.returns o).Else-next_short)
-    (o.step_holding-r.ensures
+    let a = c.args in
+    let s = c.holding_in-before in
+    let r = c.step_holding-r.result in
+    next-done _ _ _ _ _ _ _ _ _ (held_by r.stream) (record { answer = r.answer; key = r.key; trials = r.trials; tests = r.tests; looks = r.looks; stream = r.stream.stream }) _ _ _ _ _ _ _ _ (enough (goal.at.returns c).Else-next_short)
+    (c.step_holding-r.ensures
     ∙ ap (λ (x : Catalogue). call x a.cells.now a.budget (holding_state_of s.result a.low.now a.high.now a.left.now a.right.now) a.padded.now)
-    o.catalogue_in-cat.ensures
+    c.catalogue_in-cat.ensures
     ∙ ap (λ (x : HoldingRecord). call (catalogue_in a.catalogue.now) a.cells.now a.budget (holding_state_of x a.low.now a.high.now a.left.now a.right.now) a.padded.now)
     s.ensures)
     c.number_of.ensures c.put_holding.ensures c.put_result.ensures

@@ -38,9 +38,8 @@ overflow_add-result c = omega (arith, low (goal.at.overflow_add-result c).After-
 
 pub returns : goal.returns
 returns c =
-    let o = c in
-    let a = o.args in
-    let r = (goal.at.returns o).After-open-r.open-r.result in
-    open_done _ _ _ _ _ _ _ every_set r _ _ _ _ _ _ (enough (goal.at.returns o).Else-open_short)
-    ((goal.at.returns o).After-open-r.open-r.ensures ∙ ap (λ (x : Catalogue). opening x a.cells.now a.low.now a.high.now a.left.now a.right.now) o.catalogue_in-cat.ensures)
+    let a = c.args in
+    let r = (goal.at.returns c).After-open-r.open-r.result in
+    open_done _ _ _ _ _ _ _ every_set r _ _ _ _ _ _ (enough (goal.at.returns c).Else-open_short)
+    ((goal.at.returns c).After-open-r.open-r.ensures ∙ ap (λ (x : Catalogue). opening x a.cells.now a.low.now a.high.now a.left.now a.right.now) c.catalogue_in-cat.ensures)
     refl c.put_record.ensures

@@ -38,9 +38,8 @@ overflow_add-result c = omega (arith, low (goal.at.overflow_add-result c).After-
 
 pub returns : goal.returns
 returns c =
-    let o = c in
-    let a = o.args in
-    let r = o.open_holding-r.result in
-    open_done _ _ _ _ _ _ _ (held_by r.stream) (record { refusal = r.refusal; stream = r.stream.stream; tests = r.tests }) _ _ _ _ _ _ (enough (goal.at.returns o).Else-open_short)
-    (o.open_holding-r.ensures ∙ ap (λ (x : Catalogue). opening_holding x a.cells.now (record { table = a.table; row = a.row }) a.low.now a.high.now a.left.now a.right.now) o.catalogue_in-cat.ensures)
+    let a = c.args in
+    let r = c.open_holding-r.result in
+    open_done _ _ _ _ _ _ _ (held_by r.stream) (record { refusal = r.refusal; stream = r.stream.stream; tests = r.tests }) _ _ _ _ _ _ (enough (goal.at.returns c).Else-open_short)
+    (c.open_holding-r.ensures ∙ ap (λ (x : Catalogue). opening_holding x a.cells.now (record { table = a.table; row = a.row }) a.low.now a.high.now a.left.now a.right.now) c.catalogue_in-cat.ensures)
     refl c.put_holding.ensures

@@ -4,5 +4,4 @@ use Rattle.abi.proofs.streams.put_holding.Goals as goal
 
 pub returns : goal.returns
 returns c =
-    let start = c in
-    rw c.put_record.ensures (put-two-more _ _ _ _ _ start.args.words.now start.requires)
+    rw c.put_record.ensures (put-two-more _ _ _ _ _ c.args.words.now c.requires)

@@ -22,7 +22,6 @@ bounds-words-4 c = simp length-set (omega arith)
 
 pub returns : goal.returns
 returns c =
-    let s = c in
-    put_five _ _ _ _ _ s.args.words.now s.requires
-    ∙ ap₂ (λ (x y : ℕ). put (result_of x y s.args.trials s.args.tests s.args.looks) s.args.words.now)
+    put_five _ _ _ _ _ c.args.words.now c.requires
+    ∙ ap₂ (λ (x y : ℕ). put (result_of x y c.args.trials c.args.tests c.args.looks) c.args.words.now)
     c.low_word.ensures c.high_word.ensures

@@ -8,11 +8,10 @@ use Rattle.importer.proofs.filler.fill_row.Goals as goal
 pub loop-left-preserved : goal.loop-left-preserved
 loop-left-preserved c =
     let l = c.loop-left in
-    let a = c.args in
-    let st = c in (
+    let a = c.args in (
       omega (arith, l.invariant.0, c.loop-left-test.true),
       length-set l.cells l.k _ ∙ l.invariant.1,
-      l.invariant.2 ∙ fill_on l.cells a.text.now l.i l.k l.left _ c.loop-left-test.true (omega (arith, l.invariant.0, l.invariant.1, c.loop-left-test.true, st.requires)) c.code_at-field.ensures,
+      l.invariant.2 ∙ fill_on l.cells a.text.now l.i l.k l.left _ c.loop-left-test.true (omega (arith, l.invariant.0, l.invariant.1, c.loop-left-test.true, c.requires)) c.code_at-field.ensures,
     )
 
 pub returns : goal.returns

@@ -29,9 +29,8 @@ count_fault-f-requires c = (rw c.most_rows_in-most.ensures (most-in _), c.requir
 
 pub returns-then-f-ne0 : goal.returns-then-f-ne0
 returns-then-f-ne0 c =
-    let r = c in
     let f = met (goal.at.returns-then-f-ne0 c).After-count_fault-f in
-    rw c.refusal_at.ensures ((ap (λ (k : ℕ). TableFault (refusal_at k r.args.at 0)) f) ∙ sym (count-fault _ _ _ _ _ _ _ _ (sym r.read.ensures ∙ r.in-Number.is) (λ e. c.if-f-ne0.true (f ∙ e))))
+    rw c.refusal_at.ensures ((ap (λ (k : ℕ). TableFault (refusal_at k c.args.at 0)) f) ∙ sym (count-fault _ _ _ _ _ _ _ _ (sym c.read.ensures ∙ c.in-Number.is) (λ e. c.if-f-ne0.true (f ∙ e))))
 
 pub overflow_mul-cells : goal.overflow_mul-cells
 overflow_mul-cells c =
@@ -50,10 +49,8 @@ overflow_cast-rows c =
 
 pub returns-else-f-ne0 : goal.returns-else-f-ne0
 returns-else-f-ne0 c =
-    let w = c in
-    let r = w in
-    let f = met (goal.at.returns-else-f-ne0 w).After-count_fault-f in
-    c.rows_entry.ensures ∙ rw w.width.ensures (sym (count-rows _ _ _ _ _ _ _ _ (sym r.read.ensures ∙ r.in-Number.is) (sym f ∙ w.if-f-ne0.false)))
+    let f = met (goal.at.returns-else-f-ne0 c).After-count_fault-f in
+    c.rows_entry.ensures ∙ rw c.width.ensures (sym (count-rows _ _ _ _ _ _ _ _ (sym c.read.ensures ∙ c.in-Number.is) (sym f ∙ c.if-f-ne0.false)))
 
 pub returns-in-NumberFault : goal.returns-in-NumberFault
 returns-in-NumberFault c = rw c.refusal_at-in-NumberFault.ensures (sym (count-bad _ _ _ _ _ _ _ _ (sym c.read.ensures ∙ c.in-NumberFault.is)))

@@ -26,37 +26,33 @@ loop-left-init c = refl
 
 pub returns-then-blank_at : goal.returns-then-blank_at
 returns-then-blank_at c =
-    let e = c in
-    let l = e.loop-left in
-    let a = e.args in
+    let l = c.loop-left in
+    let a = c.args in
     rw c.refusal_at.ensures
     (sym (l.invariant ∙ rows-blank l.left a.width a.s.now a.v l.first l.«before» l.i _ (omega arith)
-    (sym e.run_end.ensures ∙ e.in-To.is) (sym c.blank_at.ensures ∙ c.if-blank_at.true)))
+    (sym c.run_end.ensures ∙ c.in-To.is) (sym c.blank_at.ensures ∙ c.if-blank_at.true)))
 
 -- Where the row has a value, or may be without one.
 filed : (c : Else-blank_at) →
-    let e = c in
-    let l = e.loop-left in
-    let a = e.args in
+    let l = c.loop-left in
+    let a = c.args in
     blank a.v (codes a.width a.s.now l.i) ≡ false
 filed c = sym c.blank_at.ensures ∙ c.if-blank_at.false
 
 pub loop-left-preserved : goal.loop-left-preserved
 loop-left-preserved c =
-    let e = c in
-    let l = e.loop-left in
-    let a = e.args in
+    let l = c.loop-left in
+    let a = c.args in
     l.invariant ∙ rows_more l.left a.width a.s.now a.v l.first l.«before» l.i _ (omega arith)
-    (sym e.run_end.ensures ∙ e.in-To.is) (filed (goal.at.loop-left-preserved c).Else-blank_at) (tested (goal.at.loop-left-preserved c).Joined-first ∙ c.if-rises.true)
+    (sym c.run_end.ensures ∙ c.in-To.is) (filed (goal.at.loop-left-preserved c).Else-blank_at) (tested (goal.at.loop-left-preserved c).Joined-first ∙ c.if-rises.true)
 
 pub returns-else-rises : goal.returns-else-rises
 returns-else-rises c =
-    let e = c in
-    let l = e.loop-left in
-    let a = e.args in
+    let l = c.loop-left in
+    let a = c.args in
     rw c.refusal_at-else-rises.ensures
     (sym (l.invariant ∙ rows-fall l.left a.width a.s.now a.v l.first l.«before» l.i _ (omega arith)
-    (sym e.run_end.ensures ∙ e.in-To.is) (filed (goal.at.returns-else-rises c).Else-blank_at) (tested (goal.at.returns-else-rises c).Joined-first ∙ c.if-rises.false)))
+    (sym c.run_end.ensures ∙ c.in-To.is) (filed (goal.at.returns-else-rises c).Else-blank_at) (tested (goal.at.returns-else-rises c).Joined-first ∙ c.if-rises.false)))
 
 pub returns-in-WalkFault : goal.returns-in-WalkFault
 returns-in-WalkFault c =

@@ -4,10 +4,8 @@ use Rattle.loader.proofs.scanner.rows_entry.Goals as goal
 
 pub returns-in-To : goal.returns-in-To
 returns-in-To c =
-    let e = c in
-    rw (← e.width-width.ensures, ← e.rows_end.ensures, c.in-To.is)
+    rw (← c.width-width.ensures, ← c.rows_end.ensures, c.in-To.is)
 
 pub returns-in-WalkFault : goal.returns-in-WalkFault
 returns-in-WalkFault c =
-    let e = c in
-    rw (← e.width-width.ensures, ← e.rows_end.ensures, c.in-WalkFault.is)
+    rw (← c.width-width.ensures, ← c.rows_end.ensures, c.in-WalkFault.is)

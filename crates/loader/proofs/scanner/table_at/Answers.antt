@@ -6,13 +6,11 @@ use Rattle.loader.proofs.scanner.table_at.Goals as goal
 
 pub returns-then-scheme_bad : goal.returns-then-scheme_bad
 returns-then-scheme_bad c =
-    let r = c in
-    rw c.refusal_at.ensures (sym (table-scheme _ _ _ _ _ _ _ _ (sym r.read.ensures ∙ r.in-Number.is) (sym c.scheme_bad.ensures ∙ c.if-scheme_bad.true)))
+    rw c.refusal_at.ensures (sym (table-scheme _ _ _ _ _ _ _ _ (sym c.read.ensures ∙ c.in-Number.is) (sym c.scheme_bad.ensures ∙ c.if-scheme_bad.true)))
 
 pub returns-else-scheme_bad : goal.returns-else-scheme_bad
 returns-else-scheme_bad c =
-    let r = c in
-    c.count_at.ensures ∙ sym (table-count _ _ _ _ _ _ _ _ (sym r.read.ensures ∙ r.in-Number.is) (sym c.scheme_bad.ensures ∙ c.if-scheme_bad.false))
+    c.count_at.ensures ∙ sym (table-count _ _ _ _ _ _ _ _ (sym c.read.ensures ∙ c.in-Number.is) (sym c.scheme_bad.ensures ∙ c.if-scheme_bad.false))
 
 pub returns-in-NumberFault : goal.returns-in-NumberFault
 returns-in-NumberFault c = rw c.refusal_at-in-NumberFault.ensures (sym (table-bad _ _ _ _ _ _ _ _ (sym c.read.ensures ∙ c.in-NumberFault.is)))

@@ -8,11 +8,9 @@ returns-then-at-s c = c.refuse.ensures ∙ rw c.refusal_at.ensures (sym (end-ove
 
 pub returns-then-needless : goal.returns-then-needless
 returns-then-needless c =
-    let t = c in
     c.refuse-then-needless.ensures
-    ∙ rw c.refusal_at-then-needless.ensures (sym (end-needless _ _ _ _ t.if-at-s.false (sym t.needless.ensures ∙ t.if-needless.true)))
+    ∙ rw c.refusal_at-then-needless.ensures (sym (end-needless _ _ _ _ c.if-at-s.false (sym c.needless.ensures ∙ c.if-needless.true)))
 
 pub returns : goal.returns
 returns c =
-    let t = c in
-    rw c.filled-catalogue.ensures (sym (end-good _ _ _ _ t.if-at-s.false (sym t.needless.ensures ∙ t.if-needless.false)))
+    rw c.filled-catalogue.ensures (sym (end-good _ _ _ _ c.if-at-s.false (sym c.needless.ensures ∙ c.if-needless.false)))

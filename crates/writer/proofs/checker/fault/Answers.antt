@@ -32,38 +32,33 @@ loop-t-init c =
 
 pub rows_fault-g-requires : goal.rows_fault-g-requires
 rows_fault-g-requires c =
-    let i = c in
-    let cat = i.args.cat in
-    let L = i.loop-t.invariant.1 in
-    rw (c.width-width.ensures, L.places i.loop-t.t i.loop-t-test.true)
-    (omega (arith, table-ends cat i.loop-t.t i.loop-t-test.true, L.room))
+    let cat = c.args.cat in
+    let L = c.loop-t.invariant.1 in
+    rw (c.width-width.ensures, L.places c.loop-t.t c.loop-t-test.true)
+    (omega (arith, table-ends cat c.loop-t.t c.loop-t-test.true, L.room))
 
 -- What the rows of table t meet, where the loop asks it.
 met : (c : After-rows_fault-g)
-    → (let i = c in
-    rows_refusal i.args.cat i.args.cells.now i.loop-t.t ≡ c.rows_fault-g.result)
+    → (rows_refusal c.args.cat c.args.cells.now c.loop-t.t ≡ c.rows_fault-g.result)
 met c =
-    let i = c in
     rw (
       ← c.width-width.ensures,
-      ← i.version_of-version.ensures,
-      ← i.loop-t.invariant.1.places i.loop-t.t i.loop-t-test.true,
+      ← c.version_of-version.ensures,
+      ← c.loop-t.invariant.1.places c.loop-t.t c.loop-t-test.true,
     ) (sym c.rows_fault-g.ensures)
 
 pub returns-then-g-ne0 : goal.returns-then-g-ne0
 returns-then-g-ne0 c =
-    let i = c in
     let k = met (goal.at.returns-then-g-ne0 c).After-rows_fault-g in
-    sym (i.loop-t.invariant.2 ∙ cells-bad _ _ _ _ (omega (arith, i.loop-t-test.true)) (λ e. c.if-g-ne0.true (sym k ∙ e)) ∙ k)
+    sym (c.loop-t.invariant.2 ∙ cells-bad _ _ _ _ (omega (arith, c.loop-t-test.true)) (λ e. c.if-g-ne0.true (sym k ∙ e)) ∙ k)
 
 pub loop-t-preserved : goal.loop-t-preserved
 loop-t-preserved c =
-    let i = c in
-    let l = i.loop-t in
-    let cat = i.args.cat in (
-      omega (arith, i.loop-t-test.true),
+    let l = c.loop-t in
+    let cat = c.args.cat in (
+      omega (arith, c.loop-t-test.true),
       l.invariant.1,
-      l.invariant.2 ∙ cells-more cat _ (cat.n - l.t) (cat.n - (l.t + 1)) l.t (omega (arith, i.loop-t-test.true)) (met (goal.at.loop-t-preserved c).After-rows_fault-g ∙ c.if-g-ne0.false),
+      l.invariant.2 ∙ cells-more cat _ (cat.n - l.t) (cat.n - (l.t + 1)) l.t (omega (arith, c.loop-t-test.true)) (met (goal.at.loop-t-preserved c).After-rows_fault-g ∙ c.if-g-ne0.false),
     )
 
 pub returns : goal.returns

@@ -18,15 +18,12 @@ size-requires c = rw c.version_of-version.ensures (omega (arith, version-few c.a
 
 pub overflow_add-result : goal.overflow_add-result
 overflow_add-result c =
-    let s = c in
-    omega (arith, c.size-2.ensures, first-size (goal.at.overflow_add-result c).After-size, head_three s.args.cat, head_few s.args.cat)
+    omega (arith, c.size-2.ensures, first-size (goal.at.overflow_add-result c).After-size, head_three c.args.cat, head_few c.args.cat)
 
 pub overflow_add-result-2 : goal.overflow_add-result-2
 overflow_add-result-2 c =
-    let s = c in
-    omega (arith, c.size-3.ensures, c.size-2.ensures, first-size (goal.at.overflow_add-result-2 c).After-size, head_three s.args.cat, head_few s.args.cat)
+    omega (arith, c.size-3.ensures, c.size-2.ensures, first-size (goal.at.overflow_add-result-2 c).After-size, head_three c.args.cat, head_few c.args.cat)
 
 pub returns : goal.returns
 returns c =
-    let s = c in
-    omega (arith, c.size-3.ensures, c.size-2.ensures, first-size (goal.at.returns c).After-size, head_three s.args.cat)
+    omega (arith, c.size-3.ensures, c.size-2.ensures, first-size (goal.at.returns c).After-size, head_three c.args.cat)

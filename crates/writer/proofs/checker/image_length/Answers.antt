@@ -14,9 +14,8 @@ use Rattle.writer.proofs.checker.image_length.Goals as goal
 
 -- What the table at hand has,
 here : (c : After-width)
-    → (let l = c in
-    Table l.args.cat l.args.cells.now l.loop-t.t (place_in l.args.cat l.loop-t.t) c.width.result)
-here c = let l = c in table-good _ _ l.requires l.loop-t.t c.width.result c.loop-t-test.true c.width.ensures
+    → (Table c.args.cat c.args.cells.now c.loop-t.t (place_in c.args.cat c.loop-t.t) c.width.result)
+here c = table-good _ _ c.requires c.loop-t.t c.width.result c.loop-t-test.true c.width.ensures
 
 -- and the whole is short.
 short : (c : After-width)
@@ -28,9 +27,8 @@ head_size-sum-requires c = let L = (fault-accepted _ _ c.requires).lawful in (L.
 
 pub loop-t-init : goal.loop-t-init
 loop-t-init c =
-    let p = c in
-    let e : p.args.cat.n - 0 ≡ p.args.cat.n = omega arith in
-    (omega arith, rw e (omega (arith, c.head_size-sum.ensures, head-length p.args.cat p.args.cells.now)), (fault-accepted _ _ p.requires).lawful.tables)
+    let e : c.args.cat.n - 0 ≡ c.args.cat.n = omega arith in
+    (omega arith, rw e (omega (arith, c.head_size-sum.ensures, head-length c.args.cat c.args.cells.now)), (fault-accepted _ _ c.requires).lawful.tables)
 
 pub overflow_mul-count : goal.overflow_mul-count
 overflow_mul-count c = omega (arith, (here c).most)
@@ -57,10 +55,9 @@ overflow_add-sum-in-loop-t-2 c = omega (arith, c.run_size.ensures, c.size-in-loo
 
 pub loop-t-preserved : goal.loop-t-preserved
 loop-t-preserved c =
-    let w = c in
-    let l = w.loop-t in (
-      omega (arith, w.loop-t-test.true),
-      omega (arith, c.run_size.ensures, c.size-in-loop-t.ensures, c.size.ensures, (here (goal.at.loop-t-preserved w).After-width).size, (here (goal.at.loop-t-preserved w).After-width).three, l.invariant.1),
+    let l = c.loop-t in (
+      omega (arith, c.loop-t-test.true),
+      omega (arith, c.run_size.ensures, c.size-in-loop-t.ensures, c.size.ensures, (here (goal.at.loop-t-preserved c).After-width).size, (here (goal.at.loop-t-preserved c).After-width).three, l.invariant.1),
       l.invariant.2,
     )
 

@@ -50,9 +50,8 @@ blank_at-requires c =
 
 pub returns-then-blank_at : goal.returns-then-blank_at
 returns-then-blank_at c =
-    let e = c in
-    let l = e.loop-left in
-    sym (l.invariant.2 ∙ rows-blank _ _ _ _ _ _ _ (omega arith) (low (goal.at.returns-then-blank_at e).Else-code_high) (sym c.blank_at.ensures ∙ c.if-blank_at.true))
+    let l = c.loop-left in
+    sym (l.invariant.2 ∙ rows-blank _ _ _ _ _ _ _ (omega arith) (low (goal.at.returns-then-blank_at c).Else-code_high) (sym c.blank_at.ensures ∙ c.if-blank_at.true))
 
 -- and it has a value, or may be without one.
 filed : (c : Else-blank_at)

@@ -13,14 +13,12 @@ size-sum-requires c =
 pub overflow_add-sum : goal.overflow_add-sum
 overflow_add-sum c =
     let l = c.loop-left in
-    let p = c in
-    omega (arith, run_length p.args.cells.now l.i l.left (omega arith) (omega arith), run-few p.args.cells.now p.args.from p.args.count, c.size-sum.ensures)
+    omega (arith, run_length c.args.cells.now l.i l.left (omega arith) (omega arith), run-few c.args.cells.now c.args.from c.args.count, c.size-sum.ensures)
 
 pub loop-left-preserved : goal.loop-left-preserved
 loop-left-preserved c =
     let l = c.loop-left in
-    let p = c in
-    (omega arith, (low-next _ l.i l.left (omega arith) (omega arith) l.invariant.1).1, omega (arith, run_length p.args.cells.now l.i l.left (omega arith) (omega arith), c.size-sum.ensures))
+    (omega arith, (low-next _ l.i l.left (omega arith) (omega arith) l.invariant.1).1, omega (arith, run_length c.args.cells.now l.i l.left (omega arith) (omega arith), c.size-sum.ensures))
 
 pub returns : goal.returns
 returns c =

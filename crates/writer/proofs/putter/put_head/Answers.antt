@@ -10,12 +10,11 @@ use Rattle.writer.proofs.putter.put_head.Goals as goal
 
 pub put_three-requires : goal.put_three-requires
 put_three-requires c =
-    let s = c in
     let e = c.version_of-version.ensures in (
-      omega (arith, e, version-few s.args.cat),
-      omega (arith, s.requires.0),
-      omega (arith, s.requires.1),
-      omega (arith, ap (λ (v : ℕ). length (encode v)) e, head_three s.args.cat, s.requires.2),
+      omega (arith, e, version-few c.args.cat),
+      omega (arith, c.requires.0),
+      omega (arith, c.requires.1),
+      omega (arith, ap (λ (v : ℕ). length (encode v)) e, head_three c.args.cat, c.requires.2),
     )
 
 pub returns : goal.returns

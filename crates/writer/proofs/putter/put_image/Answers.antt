@@ -21,32 +21,27 @@ room cat cells out h = omega (arith, head-length cat cells)
 
 -- What the table at hand has,
 here : (c : After-width)
-    → (let l = c in
-    Table l.args.cat l.args.cells.now l.loop-t.t (place_in l.args.cat l.loop-t.t) c.width.result)
-here c = let l = c in table-good _ _ l.requires.0 l.loop-t.t c.width.result c.loop-t-test.true c.width.ensures
+    → (Table c.args.cat c.args.cells.now c.loop-t.t (place_in c.args.cat c.loop-t.t) c.width.result)
+here c = table-good _ _ c.requires.0 c.loop-t.t c.width.result c.loop-t-test.true c.width.ensures
 
 -- and there is room for it.
 fits : (c : After-width)
-    → (let l = c in
-    l.loop-t.at + length (table_bytes l.args.cat l.args.cells.now l.loop-t.t (place_in l.args.cat l.loop-t.t) c.width.result)
-    ≤ length l.loop-t.out)
+    → (c.loop-t.at + length (table_bytes c.args.cat c.args.cells.now c.loop-t.t (place_in c.args.cat c.loop-t.t) c.width.result)
+    ≤ length c.loop-t.out)
 fits c =
-    let l = c in
-    omega (arith, (here c).size, l.loop-t.invariant.1, l.loop-t.invariant.2, placed-length (room _ _ _ l.requires.1) l.put_head-at.ensures, l.requires.1)
+    omega (arith, (here c).size, c.loop-t.invariant.1, c.loop-t.invariant.2, placed-length (room _ _ _ c.requires.1) c.put_head-at.ensures, c.requires.1)
 
 pub put_head-at-requires : goal.put_head-at-requires
 put_head-at-requires c =
-    let p = c in
-    let L = (fault-accepted _ _ p.requires.0).lawful in
-    (L.attributes, L.tables, omega (arith, head-length p.args.cat p.args.cells.now, p.requires.1))
+    let L = (fault-accepted _ _ c.requires.0).lawful in
+    (L.attributes, L.tables, omega (arith, head-length c.args.cat c.args.cells.now, c.requires.1))
 
 pub loop-t-init : goal.loop-t-init
 loop-t-init c =
-    let p = c in
-    let cat = p.args.cat in
+    let cat = c.args.cat in
     let h = c.put_head-at.ensures in
     let e : cat.n - 0 ≡ cat.n = omega arith in
-    (omega arith, refl, rw e (omega (arith, h.next, head-length cat p.args.cells.now)), rw e, (fault-accepted _ _ p.requires.0).lawful.tables)
+    (omega arith, refl, rw e (omega (arith, h.next, head-length cat c.args.cells.now)), rw e, (fault-accepted _ _ c.requires.0).lawful.tables)
 
 pub overflow_mul-count : goal.overflow_mul-count
 overflow_mul-count c = omega (arith, (here c).most)
@@ -58,12 +53,11 @@ put_table-at-requires c =
 
 pub loop-t-preserved : goal.loop-t-preserved
 loop-t-preserved c =
-    let d = c in
-    let l = d.loop-t in
+    let l = c.loop-t in
     let w = c.put_table-at.ensures in
-    let g = here (goal.at.loop-t-preserved d).After-width in
-    let f = fits (goal.at.loop-t-preserved d).After-width in (
-      omega (arith, d.loop-t-test.true),
+    let g = here (goal.at.loop-t-preserved c).After-width in
+    let f = fits (goal.at.loop-t-preserved c).After-width in (
+      omega (arith, c.loop-t-test.true),
       placed-length f w ∙ l.invariant.1,
       omega (arith, w.next, g.size, l.invariant.2),
       l.invariant.3 ∙ rw g.bytes (placed-rest f w _),
@@ -73,7 +67,6 @@ loop-t-preserved c =
 pub returns : goal.returns
 returns c =
     let l = c.loop-t in
-    let h = c in
     let a = c.args in
-    let whole = ap (λ (bs : List ℕ). put bs a.out.now) (image-head a.cat a.cells.now) ∙ placed-rest (room _ _ _ h.requires.1) h.put_head-at.ensures (tables_image a.cat.n a.cat a.cells.now 0) in
+    let whole = ap (λ (bs : List ℕ). put bs a.out.now) (image-head a.cat a.cells.now) ∙ placed-rest (room _ _ _ c.requires.1) c.put_head-at.ensures (tables_image a.cat.n a.cat a.cells.now 0) in
     sym (whole ∙ l.invariant.3 ∙ rw (image-none a.cat a.cells.now (a.cat.n - l.t) l.t (omega arith)) (put-nil l.out l.at))
