@@ -44,6 +44,8 @@ def respelled(path, text, first):
         for where, old, new in BESIDE:
             if where == crate:
                 text = re.sub(rf"(?<![\w'·.-]){old}(?![\w'·-])|(?<=\.){old}(?= ?[=:])", new, text)
+    # port.py gave this one the name of a tactic.
+    text = re.sub(r"(?<![\w'.-])first_of(?![\w'-])", "first_met", text)
     return CAMEL.sub(lambda m: snake(m[0]), text)
 
 

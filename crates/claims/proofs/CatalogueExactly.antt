@@ -16,7 +16,7 @@ use Rattle.tables.specs.declared.Made.{Made}
 use mathlib.Core.List.{List}
 use Rattle.tables.specs.Sizes.{most_attributes, most_tables, most_rows, most_cells}
 use Rattle.tables.specs.Catalogues.{scheme_of, count_of, first_cell, touching_of, filled, given, no_tables, place_in, mask_in}
-use Rattle.tables.specs.Checks.{first_of, outside, size_fault, bad_scheme, count_fault, table_fault, tables_fault, shape_fault, misstored, stored_fault, catalogue_fault, Lawful, made_if, Makes}
+use Rattle.tables.specs.Checks.{first_met, outside, size_fault, bad_scheme, count_fault, table_fault, tables_fault, shape_fault, misstored, stored_fault, catalogue_fault, Lawful, made_if, Makes}
 use Rattle.tables.proofs.CheckLaws.{first-none, first-clear, fault_at, shape-clear, fault-lawful, lawful-fault}
 use Rattle.tables.proofs.StoredLaws.{filled-lawful, made-refused, made-filled}
 use Rattle.tables.proofs.CatalogueLaws.{cells-next}
@@ -109,7 +109,7 @@ module _ (cat : Catalogue) where
 
   -- c is what the check of the sizes and then the check f of each table give; W t k is what it is that table t meets k.
   abbrev pub Whole : ℕ → (ℕ → ℕ) → Type 0
-  Whole c f = c ≡ first_of (size_fault cat.m cat.n) (scan f cat.n 0)
+  Whole c f = c ≡ first_met (size_fault cat.m cat.n) (scan f cat.n 0)
 
   module _ (f : ℕ → ℕ) (W : ℕ → ℕ → Type 0) (each : (t k : ℕ) → (f t ≡ k) ↔ W t k) (c : ℕ) (whole : Whole c f) where
     checked-iff : (k : ℕ) → (k ≡ 0 → ⊥) → (c ≡ k) ↔ (Sized k ⊎ ((SizesOut cat → ⊥) × Meets W cat.n k))
@@ -165,7 +165,7 @@ module _ (cat : Catalogue) where
   module _ (lent : ℕ) where
     whole : Whole (shape_fault cat lent) (fault_at cat lent)
     unfolding shape_fault tables_fault
-    whole = ap (first_of (size_fault cat.m cat.n)) (scan-of (fault_at cat lent) (λ k t. tables_fault k cat lent t) (λ t. refl) (λ k t. refl) cat.n 0)
+    whole = ap (first_met (size_fault cat.m cat.n)) (scan-of (fault_at cat lent) (λ k t. tables_fault k cat lent t) (λ t. refl) (λ k t. refl) cat.n 0)
 
     shape-none : (shape_fault cat lent ≡ 0) ↔ ComesToStored cat lent
     shape-none =

@@ -18,7 +18,7 @@ use Rattle.tables.specs.Catalogues.{scheme_of, count_of, first_cell, row_start}
 use Rattle.tables.specs.Sizes.{version_two}
 use Rattle.tables.specs.Rows.{below, all_null}
 use Rattle.tables.specs.Versions.{version_of, blank}
-use Rattle.tables.specs.Checks.{first_of}
+use Rattle.tables.specs.Checks.{first_met}
 use Rattle.writer.specs.Write.{too_high, rows_fault, rows_refusal}
 use Rattle.claims.specs.WriteRefusals.{row_cells, HighCode, AllNull, NotRising, GoodRow}
 use Rattle.claims.proofs.VersionExactly.{carries-two}
@@ -120,7 +120,7 @@ module _ (cat : Catalogue) (cells : List ℕ) (t : ℕ) where
   abbrev width : ℕ
   width = ones (scheme_of cat t)
 
-  row_first : (h e o : Bool) (rest : ℕ) → cond h 10 (cond e 21 (cond o rest 7)) ≡ first_of (cond h 10 (cond e 21 (cond (not o) 7 0))) rest
+  row_first : (h e o : Bool) (rest : ℕ) → cond h 10 (cond e 21 (cond o rest 7)) ≡ first_met (cond h 10 (cond e 21 (cond (not o) 7 0))) rest
   row_first true e o rest = refl
   row_first false true o rest = refl
   row_first false false true rest = refl

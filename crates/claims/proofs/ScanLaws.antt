@@ -9,7 +9,7 @@ use mathlib.Core.Bool.{Bool, true, false, not, cond, ◌||◌}
 use lib.Dec.{ltb, leb, eqb}
 use borrow.Author.Tests.{ltb-true, lt-ltb, leb-true, le-leb, eqb-true, eqb-false, eq-eqb}
 use Rattle.laws.proofs.TestLaws.{clash, not_yes, or_case, or_left, or_right}
-use Rattle.tables.specs.Checks.{first_of}
+use Rattle.tables.specs.Checks.{first_met}
 use Rattle.tables.proofs.CheckLaws.{first_some, first-none, first-clear}
 
 -- ---- a test and its condition
@@ -83,7 +83,7 @@ module _ {A : Type 0} (b : Bool) (p : (b ≡ true) ↔ A) where
 -- ---- the first of two
 
 -- What is found is found by the first, or by the second where the first finds nothing.
-pub first-iff : (a b k : ℕ) → (k ≡ 0 → ⊥) → (first_of a b ≡ k) ↔ ((a ≡ k) ⊎ ((a ≡ 0) × (b ≡ k)))
+pub first-iff : (a b k : ℕ) → (k ≡ 0 → ⊥) → (first_met a b ≡ k) ↔ ((a ≡ k) ⊎ ((a ≡ 0) × (b ≡ k)))
 first-iff zero b k h = (λ e. inr (refl, e), λ s. ⊎_elim (λ e. absurd (h (sym e))) (λ e. e.1) s)
 first-iff (suc a) b k h = (λ e. inl e, λ s. ⊎_elim (λ e. e) (λ e. absurd (omega (arith, e.0))) s)
 
@@ -92,15 +92,15 @@ first-iff (suc a) b k h = (λ e. inl e, λ s. ⊎_elim (λ e. e) (λ e. absurd (
 -- The first of k checks from check i on that finds something finds this; 0 where none does.
 unfoldable pub scan : (ℕ → ℕ) → ℕ → ℕ → ℕ
 scan f zero i = 0
-scan f (suc k) i = first_of (f i) (scan f k (i + 1))
+scan f (suc k) i = first_met (f i) (scan f k (i + 1))
 
 module _ (f : ℕ → ℕ) where
   -- Whatever goes on check by check is a scan.
-  pub scan-of : (g : ℕ → ℕ → ℕ) → ((i : ℕ) → g 0 i ≡ 0) → ((k i : ℕ) → g (suc k) i ≡ first_of (f i) (g k (i + 1)))
+  pub scan-of : (g : ℕ → ℕ → ℕ) → ((i : ℕ) → g 0 i ≡ 0) → ((k i : ℕ) → g (suc k) i ≡ first_met (f i) (g k (i + 1)))
       → (k i : ℕ) → g k i ≡ scan f k i
   unfolding scan
   scan-of g none more zero i = none i
-  scan-of g none more (suc k) i = more k i ∙ ap (first_of (f i)) (scan-of g none more k (i + 1))
+  scan-of g none more (suc k) i = more k i ∙ ap (first_met (f i)) (scan-of g none more k (i + 1))
 
   -- Check t finds it, and none of those before it, from i on, finds anything.
   pub record Found (i k v : ℕ) : Type 0 where

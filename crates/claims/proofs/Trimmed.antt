@@ -21,7 +21,7 @@ use Rattle.numbers.specs.Numbers.{encode}
 use Rattle.tables.specs.declared.Catalogue.{Catalogue}
 use Rattle.tables.specs.Sizes.{most_tables}
 use Rattle.tables.specs.Catalogues.{scheme_of, count_of, first_cell, touch, touching_below, row_start, code_of, rows_before, total}
-use Rattle.tables.specs.Checks.{first_of, size_fault, table_fault, tables_fault, shape_fault, misstored, stored_fault, catalogue_fault, Lawful}
+use Rattle.tables.specs.Checks.{first_met, size_fault, table_fault, tables_fault, shape_fault, misstored, stored_fault, catalogue_fault, Lawful}
 use Rattle.tables.proofs.CheckLaws.{fault-lawful}
 use Rattle.tables.proofs.VersionLaws.{version-same}
 use Rattle.disjunction.specs.Sets.{Tables, at}

@@ -11,7 +11,7 @@ use lib.ListN.{length}
 use lib.Dec.{ltb, eqb}
 use borrow.Author.Tests.{eqb-true, eqb-false}
 use Rattle.tables.specs.declared.Catalogue.{Catalogue}
-use Rattle.tables.specs.Checks.{first_of, catalogue_fault, Lawful}
+use Rattle.tables.specs.Checks.{first_met, catalogue_fault, Lawful}
 use Rattle.tables.proofs.CheckLaws.{first-none, first-clear, fault-lawful, lawful-fault}
 use Rattle.writer.specs.declared.Written.{Written}
 use Rattle.writer.specs.declared.Written.TheVariants.{Length, Refused}
@@ -115,7 +115,7 @@ module _ (cat : Catalogue) (cells : List ℕ) (room : ℕ) where
   write-iff : (k : ℕ) → (k ≡ 0 → ⊥) → (written cat cells room ≡ Refused k) ↔ ((write_fault cat cells ≡ k) ⊎ (WritesAll cat cells × Room k))
   unfolding written
   write-iff k h =
-      let p = refused-iff (first_of (write_fault cat cells) (length_fault cat cells room)) size k in
+      let p = refused-iff (first_met (write_fault cat cells) (length_fault cat cells room)) size k in
       let q = first-iff (write_fault cat cells) (length_fault cat cells room) k h in
       let z = fault-none cat cells in (
         λ e. ⊎_elim inl (λ (x, y). inr (z.0 x, (room-iff k).0 y)) (q.0 (p.0 e).1),
@@ -138,7 +138,7 @@ module _ (cat : Catalogue) (cells : List ℕ) (room : ℕ) where
   write-length : (n : ℕ) → (written cat cells room ≡ Length n) ↔ (WritesAll cat cells × (size ≤ room) × (n ≡ size))
   unfolding written
   write-length n =
-      let p = length-iff (first_of (write_fault cat cells) (length_fault cat cells room)) size n in
+      let p = length-iff (first_met (write_fault cat cells) (length_fault cat cells room)) size n in
       let z = fault-none cat cells in (
         λ e. let (f, d) = p.0 e in
             let (x, y) = first-clear (write_fault cat cells) (length_fault cat cells room) f in
@@ -173,7 +173,7 @@ module _ (cat : Catalogue) (cells : List ℕ) (room : ℕ) where
   write-other : (k : ℕ) → written cat cells room ≡ Refused k → Listed k
   unfolding written
   write-other k e =
-      let h = ((refused-iff (first_of (write_fault cat cells) (length_fault cat cells room)) size k).0 e).0 in
+      let h = ((refused-iff (first_met (write_fault cat cells) (length_fault cat cells room)) size k).0 e).0 in
       ⊎_elim (listed-fault k h) (λ (A, r). listed-room k h r) ((write-iff k h).0 e)
 
   -- ---- each

@@ -3,10 +3,10 @@ use Prim.Native.Nat.{ℕ, zero, suc, ◌+◌, ◌-◌, ◌*◌, ◌^◌, ◌≤�
 use native.Mathlib.Nat.{suc-mul, mul-le-mul}
 use native.Mathlib.Numerals.{sub-one}
 use native.Mathlib.Omega.{arith}
-use mathlib.Core.Path.{◌≡◌, refl, sym, ap, ◌∙◌}
+use mathlib.Core.Path.{◌≡◌, refl}
 use mathlib.Core.Bool.{true, false}
 use mathlib.Core.List.{List, [], ◌∷◌}
-use lib.ListN.{length, take, drop, get_or}
+use lib.ListN.{length, drop, get_or}
 use lib.Seq.{drop-drop}
 use lib.Count.{ones, ones-le}
 use lib.Dec.{ltb}
@@ -16,7 +16,7 @@ use Rattle.laws.proofs.ListLaws.{part_none, part-more}
 use Rattle.laws.proofs.TestLaws.{or_right}
 use Rattle.tables.specs.Sizes.{most_attributes, most_rows, most_cells}
 use Rattle.tables.specs.Rows.{below}
-use Rattle.tables.specs.Checks.{first_of, bad_scheme}
+use Rattle.tables.specs.Checks.{first_met, bad_scheme}
 use Rattle.text.specs.Lines.{no_code}
 use Rattle.text.specs.Writing.{cut, too_high, rows_fault, all_fault, table_fault, write_fault}
 
@@ -133,7 +133,7 @@ pub fault-first : (m x count : ℕ) (cells : List ℕ) → 0 < table_fault m x c
 unfolding write_fault
 fault-first m x count cells h = by (table_fault m x count (length cells)) h
   where
-    by : (f : ℕ) → 0 < f → first_of f (all_fault (cut count (ones x) cells)) ≡ f
+    by : (f : ℕ) → 0 < f → first_met f (all_fault (cut count (ones x) cells)) ≡ f
     by zero z = absurd (omega arith)
     by (suc k) z = refl
 

@@ -1,25 +1,24 @@
 -- The answer of a whole write from its parts. Assumes nothing.
-use Prim.Native.Nat.{ℕ, zero, suc, ◌+◌, ◌*◌, ◌^◌, ◌≤◌, ◌<◌}
+use Prim.Native.Nat.{ℕ, zero, suc, ◌+◌, ◌^◌, ◌≤◌, ◌<◌}
 use native.Mathlib.Nat.{mul-one}
 use native.Mathlib.Omega.{arith}
 use mathlib.Core.Path.{◌≡◌, refl, sym, ap, ◌∙◌}
 use mathlib.Core.Logic.{◌⊎◌, inl, inr}
 use mathlib.Core.List.{List, ◌++◌}
-use lib.ListN.{length, take, drop, length-append}
+use lib.ListN.{length, drop, length-append}
 use lib.Seq.{take_at}
 use lib.Count.{ones}
 use borrow.Author.Tests.{lt-ltb, le-ltb}
 use Rattle.laws.specs.Lists.{put, part}
-use Rattle.tables.specs.Checks.{first_of}
+use Rattle.tables.specs.Checks.{first_met}
 use Rattle.text.specs.Reading.{scheme_from}
-use Rattle.text.specs.Writing.{attribute_codes, line_text, lines_text, text_of, cut, table_fault, all_fault, write_fault, wrote, unwritten, wrote_of, write_of, output_after}
+use Rattle.text.specs.Writing.{attribute_codes, line_text, lines_text, text_of, cut, table_fault, all_fault, write_fault, wrote, unwritten, write_of}
 use Rattle.text.specs.Refusals.{TablePasses, TableMeets}
 use Rattle.text.proofs.WriteExactly.{table-says, table-some, table-ways}
 use Rattle.text.proofs.Headers.{header-scheme, header-width}
 use Rattle.text.proofs.RoundTrip.{some-code}
-use Rattle.exporter.specs.declared.TextWritten.{TextWritten}
 use Rattle.exporter.specs.declared.TextWritten.TheVariants.{Length, Refused}
-use Rattle.exporter.specs.Promise.{answer_of, WritesText}
+use Rattle.exporter.specs.Promise.{WritesText}
 
 -- ---- what a table without fault is
 
@@ -30,7 +29,7 @@ no-fault m x count lent e = by (table-ways m x count lent)
     by (inl p) = p
     by (inr (k, t)) = absurd (omega (arith, table-some m x count lent t, table-says m x count lent t))
 
-first-none : (a b : ℕ) → first_of a b ≡ 0 → a ≡ 0
+first-none : (a b : ℕ) → first_met a b ≡ 0 → a ≡ 0
 first-none zero b e = refl
 first-none (suc a) b e = absurd (omega arith)
 

@@ -5,12 +5,12 @@ use native.Mathlib.Nat.{not-suc-le-zero}
 use native.Mathlib.Numerals.{add-one}
 use mathlib.Core.Path.{◌≡◌, refl, sym, ap, subst, ◌∙◌}
 use mathlib.Core.Logic.{◌⊎◌, inl, inr, ⊎_elim}
-use mathlib.Core.Bool.{Bool, true, false, not, cond, ◌&&◌, ◌||◌}
+use mathlib.Core.Bool.{true, false, cond}
 use mathlib.Core.List.{List, [], ◌∷◌, ◌++◌, Memᴰ}
 use lib.ListN.{length, get_or, drop}
 use lib.Seq.{drop-cons, drop-length}
-use Rattle.laws.specs.Tests.{any, all}
-use Rattle.laws.proofs.TestLaws.{which, clash, iff-eq, not_yes, all-each, any_of, lowest-none, lowest-at}
+use Rattle.laws.specs.Tests.{all}
+use Rattle.laws.proofs.TestLaws.{which, clash, iff-eq, not_yes, any_of, lowest-none, lowest-at}
 use Rattle.laws.proofs.MemberLaws.{mem-at, at_mem}
 use Rattle.keys.specs.Keys.{bits_per_row, row_of, key_of}
 use Rattle.keys.specs.TwoWords.{key_with}
@@ -20,7 +20,7 @@ use Rattle.tables.specs.Catalogues.{total}
 use Rattle.tables.specs.Checks.{catalogue_fault, Lawful}
 use Rattle.disjunction.specs.Sets.{at, Maximal}
 use Rattle.disjunction.specs.Rule.{Grown, row_in, rows, row_at, member, extension, alone, trial}
-use Rattle.disjunction.specs.Standing.{valid, gives_back, standing}
+use Rattle.disjunction.specs.Standing.{gives_back, standing}
 use Rattle.disjunction.proofs.RowTests.{member-iff}
 use Rattle.disjunction.proofs.RowOrder.{in_rows, row_at-row}
 use Rattle.disjunction.proofs.Completeness.{trial-maximal}
@@ -37,7 +37,7 @@ use Rattle.hub.specs.Verdicts.{right, entry, missing, listed, seek, spoilt, trie
 use Rattle.hub.specs.Promises.{word_set, word_sets, answer_of, refused_or, checked}
 use Rattle.hub.specs.Searching.{among, out_of}
 use Rattle.hub.proofs.VerdictLaws.{listed-iff, seek-cases, tried-from, empty-none, empty-some, reached-maximal, spoilt-iff, good-sound}
-use Rattle.hub.proofs.KeyVerdicts.{named-word, lost-word, sets-length, sets-at, among-iff, maximal-named, maximal-key, spoilt-key, listed-key}
+use Rattle.hub.proofs.KeyVerdicts.{named-word, sets-length, sets-at, among-iff, maximal-named, maximal-key, spoilt-key, listed-key}
 
 -- ---- the sets that are not listed
 

@@ -14,7 +14,7 @@ use Rattle.tables.specs.declared.Catalogue.{Catalogue}
 use Rattle.tables.specs.Sizes.{most_tables}
 use Rattle.tables.specs.Catalogues.{scheme_of, count_of, first_cell, touch, touching_below, touching_of, given, place_in, mask_in}
 use Rattle.tables.specs.Versions.{version_of}
-use Rattle.tables.specs.Checks.{first_of, catalogue_fault, Lawful}
+use Rattle.tables.specs.Checks.{first_met, catalogue_fault, Lawful}
 use Rattle.tables.proofs.CheckLaws.{first-none, first-clear, lawful-fault}
 use Rattle.tables.proofs.StoredLaws.{for-at}
 use Rattle.loader.specs.declared.Verdict.{Verdict}
@@ -107,7 +107,7 @@ written-of (suc f) len n e = absurd (let z : ◌≡◌ {A = ℕ} 0 1 = cc in ome
 written-was : (cat : Catalogue) (cells : List ℕ) (room n : ℕ) → written cat cells room ≡ Length n → (write_fault cat cells ≡ 0) × (n ≡ length (image_of cat cells))
 unfolding written
 written-was cat cells room n e =
-    let w = written-of (first_of (write_fault cat cells) (length_fault cat cells room)) (length (image_of cat cells)) n e in
+    let w = written-of (first_met (write_fault cat cells) (length_fault cat cells room)) (length (image_of cat cells)) n e in
     ((first-clear (write_fault cat cells) (length_fault cat cells room) w.0).0, w.1)
 
 written-clear : (cat : Catalogue) (cells : List ℕ) (room : ℕ) → write_fault cat cells ≡ 0 → length (image_of cat cells) ≤ room

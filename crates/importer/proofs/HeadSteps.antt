@@ -10,16 +10,13 @@ use lib.ListN.{length, drop}
 use lib.Dec.{ltb, leb}
 use lib.Pow.{pow_mono}
 use borrow.Author.Tests.{lt-ltb, le-ltb, le-leb, lt-leb, ltb-true, leb-true}
-use Rattle.laws.proofs.TestLaws.{and_split, which}
-use Rattle.tables.specs.Checks.{first_of}
+use Rattle.tables.specs.Checks.{first_met}
 use Rattle.text.specs.declared.Form.TheVariants.{AtStart}
-use Rattle.text.specs.declared.Fielded.{Fielded}
 use Rattle.text.specs.declared.Fielded.TheVariants.{ToComma, ToLine, Nothing, OutsideHere}
-use Rattle.text.specs.Lines.{Lines, done, line, last_line, lines_from}
+use Rattle.text.specs.Lines.{Lines, line, lines_from}
 use Rattle.text.specs.Reading.{header_fault, scheme_from, refused, or_else, rows_from, headed}
 use Rattle.text.specs.Fields.{field_at}
 use Rattle.text.proofs.Fieldwise.{comma-next, line-next, lines-field}
-use Rattle.importer.specs.declared.Head.{Head}
 use Rattle.importer.specs.declared.Head.TheVariants.{Rows, BadHead}
 use Rattle.importer.specs.Steps.{head_bad, scheme_on, head_or, head_told, HeadSizes, HeadSays}
 use Rattle.importer.proofs.LineSteps.{length-snoc, last-behind, last_none}
@@ -43,15 +40,15 @@ scheme-snoc (x ∷ row) c = omega (arith, scheme-snoc row c)
 
 module _ (m : ℕ) where
   header-snoc : (k b : ℕ) (row : List ℕ) (c : ℕ)
-      → header_fault m (suc k) b (row ++ (c ∷ [])) ≡ first_of (header_fault m (suc k) b row) (cond (ltb (last_from b row) c && leb c m) 0 (suc k + length row))
+      → header_fault m (suc k) b (row ++ (c ∷ [])) ≡ first_met (header_fault m (suc k) b row) (cond (ltb (last_from b row) c && leb c m) 0 (suc k + length row))
   unfolding header_fault last_from
   header-snoc k b [] c = let e : suc k + 0 ≡ suc k = omega arith in rw e
   header-snoc k b (x ∷ row) c = by (ltb b x && leb x m) (header-snoc (suc k) x row c)
     where
       by : (t : Bool)
-          → header_fault m (suc (suc k)) x (row ++ (c ∷ [])) ≡ first_of (header_fault m (suc (suc k)) x row) (cond (ltb (last_from x row) c && leb c m) 0 (suc (suc k) + length row))
+          → header_fault m (suc (suc k)) x (row ++ (c ∷ [])) ≡ first_met (header_fault m (suc (suc k)) x row) (cond (ltb (last_from x row) c && leb c m) 0 (suc (suc k) + length row))
           → cond t (header_fault m (suc k + 1) x (row ++ (c ∷ []))) (suc k)
-          ≡ first_of (cond t (header_fault m (suc k + 1) x row) (suc k)) (cond (ltb (last_from x row) c && leb c m) 0 (suc k + suc (length row)))
+          ≡ first_met (cond t (header_fault m (suc k + 1) x row) (suc k)) (cond (ltb (last_from x row) c && leb c m) 0 (suc k + suc (length row)))
       by true ih =
           let p : suc k + 1 ≡ suc (suc k) = omega arith in
           let q : suc k + suc (length row) ≡ suc (suc k) + length row = omega arith in

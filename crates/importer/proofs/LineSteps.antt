@@ -4,16 +4,15 @@ use native.Mathlib.Decide.{ℕ_discrete}
 use native.Mathlib.Omega.{arith}
 use mathlib.Core.Path.{◌≡◌, refl, sym, ap, ◌∙◌}
 use mathlib.Core.Bool.{Bool, true, false, cond}
-use mathlib.Core.List.{List, [], ◌∷◌, ◌++◌, append_assoc, append-nil}
+use mathlib.Core.List.{List, [], ◌∷◌, ◌++◌, append_assoc}
 use lib.ListN.{length, drop, length-append}
 use lib.Dec.{ltb, eqb}
 use borrow.Author.Tests.{eq-eqb, ne_eqb, lt-ltb, le-ltb}
-use Rattle.tables.specs.Checks.{first_of}
+use Rattle.tables.specs.Checks.{first_met}
 use Rattle.text.specs.declared.Form.TheVariants.{AtStart}
-use Rattle.text.specs.declared.Fielded.{Fielded}
 use Rattle.text.specs.declared.Fielded.TheVariants.{ToComma, ToLine, Nothing, OutsideHere}
-use Rattle.text.specs.Lines.{no_code, Lines, done, broken, line, last_line, lines_from}
-use Rattle.text.specs.Reading.{cell_fault, insert, refused, counted, or_else, rows_from}
+use Rattle.text.specs.Lines.{no_code, Lines, done, line, last_line, lines_from}
+use Rattle.text.specs.Reading.{cell_fault, insert, refused, or_else, rows_from}
 use Rattle.text.specs.Fields.{field_at, code_of, next_of, codes_at}
 use Rattle.text.proofs.TextSays.{late, row-wrong, row-broken}
 use Rattle.text.proofs.Fieldwise.{comma-next, line-next, lines-field, codes-none, codes-next}
@@ -25,13 +24,13 @@ use Rattle.importer.specs.Steps.{cells_bad, line_or, ended_of, line_told, LineSi
 pub length-snoc : (row : List ℕ) (c : ℕ) → length (row ++ (c ∷ [])) ≡ length row + 1
 length-snoc row c = length-append row (c ∷ [])
 
-cells-snoc : (k : ℕ) (row : List ℕ) (c : ℕ) → cell_fault (suc k) (row ++ (c ∷ [])) ≡ first_of (cell_fault (suc k) row) (cond (ltb c no_code) 0 (suc k + length row))
+cells-snoc : (k : ℕ) (row : List ℕ) (c : ℕ) → cell_fault (suc k) (row ++ (c ∷ [])) ≡ first_met (cell_fault (suc k) row) (cond (ltb c no_code) 0 (suc k + length row))
 unfolding cell_fault
 cells-snoc k [] c = let e : suc k + 0 ≡ suc k = omega arith in rw e
 cells-snoc k (x ∷ row) c = by (ltb x no_code) (cells-snoc (suc k) row c)
   where
-    by : (t : Bool) → cell_fault (suc (suc k)) (row ++ (c ∷ [])) ≡ first_of (cell_fault (suc (suc k)) row) (cond (ltb c no_code) 0 (suc (suc k) + length row))
-        → cond t (cell_fault (suc k + 1) (row ++ (c ∷ []))) (suc k) ≡ first_of (cond t (cell_fault (suc k + 1) row) (suc k)) (cond (ltb c no_code) 0 (suc k + suc (length row)))
+    by : (t : Bool) → cell_fault (suc (suc k)) (row ++ (c ∷ [])) ≡ first_met (cell_fault (suc (suc k)) row) (cond (ltb c no_code) 0 (suc (suc k) + length row))
+        → cond t (cell_fault (suc k + 1) (row ++ (c ∷ []))) (suc k) ≡ first_met (cond t (cell_fault (suc k + 1) row) (suc k)) (cond (ltb c no_code) 0 (suc k + suc (length row)))
     by true ih =
         let p : suc k + 1 ≡ suc (suc k) = omega arith in
         let q : suc k + suc (length row) ≡ suc (suc k) + length row = omega arith in

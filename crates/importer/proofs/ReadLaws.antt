@@ -1,5 +1,5 @@
 -- What is told at the end: 8 or the table; and the answer of a whole reading from its parts. Assumes nothing.
-use Prim.Native.Nat.{ℕ, ◌+◌, ◌*◌, ◌≤◌, ◌<◌}
+use Prim.Native.Nat.{ℕ, ◌*◌, ◌≤◌, ◌<◌}
 use native.Mathlib.Omega.{arith}
 use mathlib.Core.Path.{◌≡◌, refl, sym, ap, subst, ◌∙◌}
 use mathlib.Core.Bool.{true}
@@ -12,7 +12,7 @@ use Rattle.laws.proofs.TestLaws.{or_right}
 use Rattle.tables.specs.Sizes.{most_attributes, most_rows, most_cells}
 use Rattle.text.specs.declared.Form.TheVariants.{AtStart}
 use Rattle.text.specs.Lines.{lines_from}
-use Rattle.text.specs.Reading.{Told, table, refused, counted, rows_from, headed, read_of, flat, cells_after}
+use Rattle.text.specs.Reading.{Told, table, refused, counted, rows_from, read_of, flat}
 use Rattle.text.proofs.TextSays.{in-range}
 use Rattle.laws.specs.Lists.{put}
 use Rattle.importer.specs.declared.TextRead.{TextRead}
@@ -23,7 +23,7 @@ use Rattle.importer.specs.declared.Collected.{Collected}
 use Rattle.importer.specs.declared.Collected.TheVariants.{Kept, Faulty}
 use Rattle.importer.specs.Steps.{HeadSays}
 use Rattle.importer.specs.Kept.{rows_at, Collects}
-use Rattle.importer.specs.Promise.{answer_of, Tells, ReadsText}
+use Rattle.importer.specs.Promise.{Tells, ReadsText}
 use Rattle.importer.proofs.PlacesLaws.{length-rows}
 
 -- ---- 8, or the table

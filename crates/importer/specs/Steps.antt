@@ -1,7 +1,7 @@
 -- Words for the reading's own steps: the header and a row's line, field by field. What a step gives says, of all that is left to tell, what is told now.
 -- Assumes nothing.
 use Rattle.std.specs.Prelude.{ℕ, zero, suc, ◌+◌, ◌-◌, ◌^◌, ◌≤◌, ◌<◌, ◌≡◌, cond, ◌&&◌, List, [], length, drop, ltb, leb, eqb}
-use Rattle.tables.specs.Checks.{first_of}
+use Rattle.tables.specs.Checks.{first_met}
 use Rattle.text.specs.declared.Form.TheVariants.{AtStart}
 use Rattle.text.specs.Lines.{no_code, lines_from}
 use Rattle.text.specs.Reading.{Told, refused, insert, counted, rows_from, headed}
@@ -15,7 +15,7 @@ use Rattle.importer.specs.declared.Line.TheVariants.{Row, End, BadLine}
 
 -- The first field of the header that is at fault, once its field of code c ends, behind the code `before`; 0 for none.
 unfoldable pub head_bad : (m bad field before c : ℕ) → ℕ
-head_bad m bad field before c = first_of bad (cond (ltb before c && leb c m) 0 field)
+head_bad m bad field before c = first_met bad (cond (ltb before c && leb c m) 0 field)
 
 -- The scheme with one attribute more, unless the header is bad.
 unfoldable pub scheme_on : (bad x c : ℕ) → ℕ
@@ -45,7 +45,7 @@ pub record HeadSays (m : ℕ) (s : List ℕ) (r : Head) : Type 0 where
 
 -- The first field of a line whose cell is at fault, once its field of code c ends; 0 for none.
 unfoldable pub cells_bad : (bad field c : ℕ) → ℕ
-cells_bad bad field c = first_of bad (cond (ltb c no_code) 0 field)
+cells_bad bad field c = first_met bad (cond (ltb c no_code) 0 field)
 
 -- A line of w attributes ends in its field of this number: 22 at the first missing field, else 24 at the cell at fault, else a row.
 unfoldable pub line_or : (bad n : ℕ) → Line

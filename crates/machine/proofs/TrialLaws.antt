@@ -13,7 +13,7 @@ use Rattle.tables.specs.declared.Catalogue.{Catalogue}
 use Rattle.tables.specs.Catalogues as catalogues
 use Rattle.tables.specs.Catalogues.{total}
 use Rattle.disjunction.specs.Rule.{Place, row_at, Grown, extension, alone, trial}
-use Rattle.disjunction.specs.Asked.{Asked, every_set, wanted}
+use Rattle.disjunction.specs.Asked.{every_set, wanted}
 use Rattle.disjunction.proofs.RowOrder.{row_at-row}
 use Rattle.disjunction.proofs.Completeness.{trial-around}
 use Rattle.rows.specs.World.{world_of, set_of, place_of}

@@ -6,7 +6,7 @@ use Rattle.keys.specs.Keys.{bits_per_row, key_of}
 use Rattle.tables.specs.Sizes.{most_tables, most_total}
 use Rattle.tables.specs.declared.Catalogue.{Catalogue}
 use Rattle.tables.specs.Catalogues.{total}
-use Rattle.tables.specs.Checks.{first_of, catalogue_fault}
+use Rattle.tables.specs.Checks.{first_met, catalogue_fault}
 use Rattle.disjunction.specs.Rule.{Place, Grown, row_at, extension, alone, trial}
 use Rattle.disjunction.specs.Asked.{Asked, every_set, every_with, wanted, first_for}
 use Rattle.disjunction.specs.Cells.{padded}
@@ -192,7 +192,7 @@ pub record Fit (cat : Catalogue) (q : State) : Type 0 where
 -- "Stream call checks the catalogue as open does, then 13, then 11 (padded row shorter than m)." 0 stands for none.
 unfoldable pub call_fault : Catalogue → ℕ → State → List ℕ → ℕ
 call_fault cat lent q row =
-    first_of (catalogue_fault cat lent)
+    first_met (catalogue_fault cat lent)
     (cond (unfit cat q) 13
     (cond (ltb (length row) cat.m) 11
     0))
@@ -250,7 +250,7 @@ pub record Opened : Type 0 where
 -- the store has no record." 0 stands for none.
 unfoldable pub open_fault : Catalogue → ℕ → Asked → Store → ℕ
 open_fault cat lent a store =
-    first_of (catalogue_fault cat lent)
+    first_met (catalogue_fault cat lent)
     (cond (stray cat a) 19
     (cond (ltb 0 (total cat) && eqb (room_in store) 0) 12
     0))

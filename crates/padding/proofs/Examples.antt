@@ -1,8 +1,7 @@
 -- Worked rows, by computation. Codes are values plus 1, and 0 is null. Assumes nothing.
-use Prim.Native.Nat.{ℕ}
 use mathlib.Core.Path.{◌≡◌, refl}
 use mathlib.Core.Bool.{true, false}
-use mathlib.Core.List.{List, [], ◌∷◌}
+use mathlib.Core.List.{[], ◌∷◌}
 use lib.Count.{ones, ones_in}
 use Rattle.laws.specs.Lists.{tab}
 use Rattle.laws.specs.Tests.{any, all}

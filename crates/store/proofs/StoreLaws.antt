@@ -1,6 +1,6 @@
 -- The store of row sets' keys in four lists, at w bits for each of n rows: what holds of every store, of a copy of one, and the laws of Tree for a
 -- good one. `offered` is what the proof of a stream cites. Assumes nothing.
-use Prim.Native.Nat.{ℕ, ◌+◌, ◌-◌, ◌*◌, ◌^◌, ◌<◌}
+use Prim.Native.Nat.{ℕ, ◌+◌, ◌*◌, ◌<◌}
 use mathlib.Core.Bool.{Bool, true, false, not, cond, Bool-discrete}
 use mathlib.Core.List.{List}
 use mathlib.Core.Logic.{◌⊎◌, inl, inr, ⊎_elim}

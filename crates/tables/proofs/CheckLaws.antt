@@ -14,20 +14,20 @@ use Rattle.tables.specs.declared.Catalogue.{Catalogue}
 use Rattle.tables.specs.Sizes.{most_attributes, most_tables, most_rows, most_cells}
 use Rattle.laws.proofs.TestLaws.{clash, not_yes, or_right, any_of, any_none}
 use Rattle.tables.specs.Catalogues.{scheme_of, count_of, first_cell, touching_of, place_in, mask_in}
-use Rattle.tables.specs.Checks.{first_of, outside, size_fault, bad_scheme, count_fault, table_fault, tables_fault, shape_fault, misstored, stored_fault, catalogue_fault, Lawful}
+use Rattle.tables.specs.Checks.{first_met, outside, size_fault, bad_scheme, count_fault, table_fault, tables_fault, shape_fault, misstored, stored_fault, catalogue_fault, Lawful}
 use Rattle.tables.proofs.CatalogueLaws.{cells-next, table-ends}
 
 -- ---- the first of two refusals
 
-pub first_some : (a b : ℕ) → (a ≡ 0 → ⊥) → first_of a b ≡ a
+pub first_some : (a b : ℕ) → (a ≡ 0 → ⊥) → first_met a b ≡ a
 first_some zero b h = absurd (h refl)
 first_some (suc a) b h = refl
 
-pub first-none : (a b : ℕ) → a ≡ 0 → first_of a b ≡ b
+pub first-none : (a b : ℕ) → a ≡ 0 → first_met a b ≡ b
 first-none a b e = rw e
 
 -- where the first of two is none, neither is met
-pub first-clear : (a b : ℕ) → first_of a b ≡ 0 → (a ≡ 0) × (b ≡ 0)
+pub first-clear : (a b : ℕ) → first_met a b ≡ 0 → (a ≡ 0) × (b ≡ 0)
 first-clear zero b h = (refl, h)
 first-clear (suc a) b h = absurd (omega arith)
 

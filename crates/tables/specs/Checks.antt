@@ -9,9 +9,9 @@ use Rattle.laws.specs.Tests.{any}
 use Rattle.tables.specs.Catalogues.{scheme_of, count_of, first_cell, touching_of, filled, given, no_tables, place_in, mask_in}
 
 -- The first of two refusals, in the order in which they are looked for.
-abbrev pub first_of : ℕ → ℕ → ℕ
-first_of zero later = later
-first_of (suc k) later = suc k
+abbrev pub first_met : ℕ → ℕ → ℕ
+first_met zero later = later
+first_met (suc k) later = suc k
 
 -- A number out of range: below the low end or above the high one.
 abbrev pub outside : ℕ → ℕ → ℕ → Bool
@@ -44,12 +44,12 @@ table_fault m lent used scheme rows = cond (bad_scheme m scheme) 5 (count_fault 
 unfoldable pub tables_fault : ℕ → Catalogue → ℕ → ℕ → ℕ
 tables_fault zero cat lent t = 0
 tables_fault (suc k) cat lent t =
-    first_of (table_fault cat.m lent (first_cell cat t) (scheme_of cat t) (count_of cat t))
+    first_met (table_fault cat.m lent (first_cell cat t) (scheme_of cat t) (count_of cat t))
     (tables_fault k cat lent (t + 1))
 
 -- "Open checks the catalogue (4; then table by table 5, 6, 8)". `lent` is how many cells are lent.
 unfoldable pub shape_fault : Catalogue → ℕ → ℕ
-shape_fault cat lent = first_of (size_fault cat.m cat.n) (tables_fault cat.n cat lent 0)
+shape_fault cat lent = first_met (size_fault cat.m cat.n) (tables_fault cat.n cat lent 0)
 
 -- "16, a stored place or mask isn't the one worked out": that of table t.
 unfoldable pub misstored : Catalogue → ℕ → Bool
@@ -61,7 +61,7 @@ stored_fault cat = cond (any cat.n (misstored cat)) 16 0
 
 -- 16 comes "after 4, 5, 6 and 8 wherever a catalogue is lent".
 unfoldable pub catalogue_fault : Catalogue → ℕ → ℕ
-catalogue_fault cat lent = first_of (shape_fault cat lent) (stored_fault cat)
+catalogue_fault cat lent = first_met (shape_fault cat lent) (stored_fault cat)
 
 -- What a catalogue without fault is known to be; all its cells lie among those that are lent.
 pub record Lawful (cat : Catalogue) (lent : ℕ) : Type 0 where

@@ -13,7 +13,7 @@ use lib.Dec.{ltb, leb, eqb}
 use borrow.Author.Tests.{lt-ltb, le-ltb, le-leb, lt-leb, eq-eqb, ne_eqb, leb-true}
 use Rattle.tables.specs.Sizes.{most_attributes, most_rows, most_cells}
 use Rattle.tables.specs.Rows.{below}
-use Rattle.tables.specs.Checks.{first_of, bad_scheme}
+use Rattle.tables.specs.Checks.{first_met, bad_scheme}
 use Rattle.laws.proofs.TestLaws.{clash}
 use Rattle.text.specs.Lines.{no_code}
 use Rattle.text.specs.Order.{Rising}
@@ -192,7 +192,7 @@ module _ (m x count : ℕ) (cells : List ℕ) (room : ℕ) where
   abbrev text : List ℕ
   text = text_of m x (cut count (ones x) cells)
 
-  written : (k : ℕ) → first_of (write_fault m x count cells) (cond (ltb room (length text)) 11 0) ≡ k → write_of m x count cells room ≡ wrote_of k text
+  written : (k : ℕ) → first_met (write_fault m x count cells) (cond (ltb room (length text)) 11 0) ≡ k → write_of m x count cells room ≡ wrote_of k text
   unfolding write_of
   written k e = ap (λ (n : ℕ). wrote_of n text) e
 
@@ -200,11 +200,11 @@ module _ (m x count : ℕ) (cells : List ℕ) (room : ℕ) where
   not-nought zero h = absurd (omega arith)
   not-nought (suc k) h = refl
 
-  first-is : (a b k : ℕ) → 0 < k → a ≡ k → first_of a b ≡ k
+  first-is : (a b k : ℕ) → 0 < k → a ≡ k → first_met a b ≡ k
   first-is a b zero h e = absurd (omega arith)
   first-is a b (suc k) h e = rw e
 
-  passes-through : (a b : ℕ) → a ≡ 0 → first_of a b ≡ b
+  passes-through : (a b : ℕ) → a ≡ 0 → first_met a b ≡ b
   passes-through a b e = rw e
 
   fault-says : {k : ℕ} → WriteFault m x count cells room k → write_of m x count cells room ≡ unwritten k

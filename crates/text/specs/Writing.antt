@@ -5,7 +5,7 @@ use Rattle.laws.specs.Lists.{put}
 use Rattle.lines.specs.Decimals.{decimal}
 use Rattle.tables.specs.Sizes.{most_attributes, most_rows, most_cells}
 use Rattle.tables.specs.Rows.{below}
-use Rattle.tables.specs.Checks.{first_of, outside, bad_scheme}
+use Rattle.tables.specs.Checks.{first_met, outside, bad_scheme}
 use Rattle.text.specs.Lines.{comma, cr, lf, no_code}
 
 -- ---- the text
@@ -73,7 +73,7 @@ table_fault m scheme count lent =
 
 -- "The text writer refuses a table as the image writer refuses one table alone, 21 aside"
 unfoldable pub write_fault : ℕ → ℕ → ℕ → List ℕ → ℕ
-write_fault m scheme count cells = first_of (table_fault m scheme count (length cells)) (all_fault (cut count (ones scheme) cells))
+write_fault m scheme count cells = first_met (table_fault m scheme count (length cells)) (all_fault (cut count (ones scheme) cells))
 
 -- What a write gives.
 pub data Wrote : Type 0 where
@@ -88,7 +88,7 @@ wrote_of (suc k) text = unwritten (suc k)
 unfoldable pub write_of : ℕ → ℕ → ℕ → List ℕ → ℕ → Wrote
 write_of m scheme count cells room =
     let text = text_of m scheme (cut count (ones scheme) cells) in
-    wrote_of (first_of (write_fault m scheme count cells) (cond (ltb room (length text)) 11 0)) text
+    wrote_of (first_met (write_fault m scheme count cells) (cond (ltb room (length text)) 11 0)) text
 
 -- "A refusal writes nothing": the lent output behind a write. Bytes behind the text stay.
 abbrev pub output_after : Wrote → List ℕ → List ℕ

@@ -1,9 +1,9 @@
 -- "The text writer refuses a table as the image writer refuses one table alone, 21 aside": its tests are the image writer's on a catalogue of one table.
 -- Assumes nothing.
-use Prim.Native.Nat.{ℕ, zero, suc, ◌+◌, ◌*◌, ◌≤◌, ◌<◌}
+use Prim.Native.Nat.{ℕ, zero, suc, ◌+◌, ◌*◌, ◌≤◌}
 use native.Mathlib.Nat.{zero-add}
 use native.Mathlib.Omega.{arith}
-use mathlib.Core.Path.{◌≡◌, refl, sym, ap, ◌∙◌}
+use mathlib.Core.Path.{◌≡◌, refl, sym, ◌∙◌}
 use mathlib.Core.Bool.{Bool, true, false, cond, ◌||◌}
 use mathlib.Core.List.{List, [], ◌∷◌}
 use lib.ListN.{length, drop}
@@ -12,9 +12,9 @@ use lib.Count.{ones}
 use lib.Dec.{ltb}
 use Rattle.laws.specs.Lists.{part}
 use Rattle.tables.specs.Sizes.{most_attributes, most_rows, most_rows_one, most_cells, version_one}
-use Rattle.tables.specs.Catalogues.{count_of, first_cell, touching_of}
+use Rattle.tables.specs.Catalogues.{first_cell, touching_of}
 use Rattle.tables.specs.Rows.{below}
-use Rattle.tables.specs.Checks.{first_of, outside, size_fault, bad_scheme, count_fault, table_fault as table_fault_of, tables_fault, shape_fault, stored_fault, catalogue_fault}
+use Rattle.tables.specs.Checks.{first_met, outside, size_fault, bad_scheme, count_fault, table_fault as table_fault_of, tables_fault, shape_fault, stored_fault, catalogue_fault}
 use Rattle.tables.specs.Versions.{version_of, blank}
 use Rattle.tables.proofs.CheckLaws.{stored-right, stored-good}
 use Rattle.tables.proofs.StoredLaws.{for-at, filled-first, filled-touching}
@@ -64,15 +64,15 @@ module _ (w : ℕ) (cells : List ℕ) where
 
 -- ---- the tests in their order
 
-first-only : (r : ℕ) → first_of r 0 ≡ r
+first-only : (r : ℕ) → first_met r 0 ≡ r
 first-only zero = refl
 first-only (suc r) = refl
 
-first-aside : (f a b : ℕ) → ((a ≡ 21 → ⊥) → a ≡ b) → (first_of f a ≡ 21 → ⊥) → first_of f a ≡ first_of f b
+first-aside : (f a b : ℕ) → ((a ≡ 21 → ⊥) → a ≡ b) → (first_met f a ≡ 21 → ⊥) → first_met f a ≡ first_met f b
 first-aside zero a b g h = g h
 first-aside (suc f) a b g h = refl
 
-in-turn : (a b c d : Bool) → first_of (first_of (cond a 4 0) (first_of (cond b 5 (cond c 6 (cond d 8 0))) 0)) 0 ≡ cond a 4 (cond b 5 (cond c 6 (cond d 8 0)))
+in-turn : (a b c d : Bool) → first_met (first_met (cond a 4 0) (first_met (cond b 5 (cond c 6 (cond d 8 0))) 0)) 0 ≡ cond a 4 (cond b 5 (cond c 6 (cond d 8 0)))
 in-turn true b c d = refl
 in-turn false true c d = refl
 in-turn false false true d = refl
@@ -99,11 +99,11 @@ module _ (m x count : ℕ) (cells : List ℕ) where
   abbrev rows_in : ℕ → ℕ
   rows_in v = rows_fault_of count (ones x) cells v true 0 0
 
-  image-alone : image_fault (alone m x count) cells ≡ first_of (table_fault m x count (length cells)) (rows_in (version_of (alone m x count)))
+  image-alone : image_fault (alone m x count) cells ≡ first_met (table_fault m x count (length cells)) (rows_in (version_of (alone m x count)))
   unfolding image_fault cells_fault first_cell
   image-alone = rw (catalogue-alone, first-only (rows_in (version_of (alone m x count))))
 
-  text-alone : write_fault m x count cells ≡ first_of (table_fault m x count (length cells)) (rows_in version_one)
+  text-alone : write_fault m x count cells ≡ first_met (table_fault m x count (length cells)) (rows_in version_one)
   unfolding write_fault
   text-alone = rw (all-rows (ones x) cells count)
 

@@ -1,13 +1,11 @@
 -- A reading exactly when, and one outcome: the promise's answer is what is told, and what is told is exact (crate text, text-exact). Assumes nothing.
 use Prim.Native.Nat.{ℕ}
 use native.Mathlib.Omega.{arith}
-use mathlib.Core.Path.{◌≡◌, refl, sym, ap, ◌∙◌}
-use mathlib.Core.Logic.{◌↔◌}
+use mathlib.Core.Path.{◌≡◌, sym, ap, ◌∙◌}
 use mathlib.Core.List.{List}
 use lib.ListN.{length}
-use Rattle.laws.specs.Lists.{put}
-use Rattle.text.specs.Reading.{Told, table, refused, read_of, flat, cells_after}
-use Rattle.text.specs.Refusals.{FirstFault, ReadWhole}
+use Rattle.text.specs.Reading.{Told, table, refused, read_of, cells_after}
+use Rattle.text.specs.Refusals.{ReadWhole}
 use Rattle.text.proofs.TextExactly.{text-exact}
 use Rattle.importer.specs.declared.TextRead.{TextRead}
 use Rattle.importer.specs.declared.TextRead.TheVariants.{Table, Refused}

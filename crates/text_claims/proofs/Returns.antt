@@ -1,13 +1,12 @@
 -- "reading that gives the same table": the bytes of a write, read again, whoever wrote and read them by the two promises. Assumes nothing.
-use Prim.Native.Nat.{ℕ, ◌+◌, ◌*◌, ◌≤◌}
-use native.Mathlib.Omega.{arith}
-use mathlib.Core.Path.{◌≡◌, refl, sym, ap, ◌∙◌}
+use Prim.Native.Nat.{ℕ, ◌*◌, ◌≤◌}
+use mathlib.Core.Path.{◌≡◌, sym, ap, ◌∙◌}
 use mathlib.Core.List.{List}
 use lib.ListN.{length, take, drop}
 use lib.Seq.{take_at}
 use lib.Count.{ones}
 use Rattle.laws.specs.Lists.{put}
-use Rattle.text.specs.Reading.{Told, table, read_of, flat, cells_after}
+use Rattle.text.specs.Reading.{Told, table, read_of, cells_after}
 use Rattle.text.specs.Writing.{cut, Wrote, write_of, output_after}
 use Rattle.text.proofs.RoundTrip.{round_trip, flat-cut, length_cut}
 use Rattle.importer.specs.declared.TextRead.{TextRead}

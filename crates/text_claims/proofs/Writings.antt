@@ -4,8 +4,7 @@ use native.Mathlib.Omega.{arith}
 use mathlib.Core.Path.{◌≡◌, refl, sym, ap, ◌∙◌}
 use mathlib.Core.List.{List}
 use lib.ListN.{length}
-use lib.Count.{ones}
-use Rattle.text.specs.Writing.{text_of, cut, Wrote, wrote, unwritten, write_of, output_after}
+use Rattle.text.specs.Writing.{Wrote, wrote, unwritten, write_of, output_after}
 use Rattle.text.proofs.WriteExactly.{write-exact}
 use Rattle.exporter.specs.declared.TextWritten.{TextWritten}
 use Rattle.exporter.specs.declared.TextWritten.TheVariants.{Length, Refused}

@@ -6,7 +6,7 @@ use Rattle.laws.specs.Lists.{put}
 use Rattle.tables.specs.declared.Catalogue.{Catalogue}
 use Rattle.tables.specs.Sizes.{most_rows_one, version_one}
 use Rattle.tables.specs.Catalogues.{filled, given}
-use Rattle.tables.specs.Checks.{first_of, catalogue_fault}
+use Rattle.tables.specs.Checks.{first_met, catalogue_fault}
 use Rattle.writer.specs.Write.{rows_fault, write_fault as image_fault}
 use Rattle.text.specs.Reading.{flat}
 use Rattle.text.specs.Refusals.{FirstFault, ReadWhole, WriteFault, TablePasses, RowsPass}
@@ -64,4 +64,4 @@ pub record SameRefusals (m x count : ℕ) (cells : List ℕ) : Type 0 where
   pub short : count ≤ most_rows_one → write_fault m x count cells ≡ image_fault (alone m x count) cells
   -- Whatever it gives, the text writer's tests are the image writer's, of the catalogue and then of the rows, but that no row is 21, as in version 1.
   pub tests : write_fault m x count cells
-      ≡ first_of (catalogue_fault (alone m x count) (length cells)) (rows_fault count (ones x) cells version_one true 0 0)
+      ≡ first_met (catalogue_fault (alone m x count) (length cells)) (rows_fault count (ones x) cells version_one true 0 0)

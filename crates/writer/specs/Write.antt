@@ -8,7 +8,7 @@ use Rattle.numbers.specs.Numbers.{encode}
 use Rattle.tables.specs.declared.Catalogue.{Catalogue}
 use Rattle.tables.specs.Catalogues.{scheme_of, count_of, first_cell}
 use Rattle.tables.specs.Rows.{below}
-use Rattle.tables.specs.Checks.{first_of, catalogue_fault, Lawful}
+use Rattle.tables.specs.Checks.{first_met, catalogue_fault, Lawful}
 use Rattle.tables.specs.Versions.{version_of, blank}
 use Rattle.writer.specs.declared.Written.{Written}
 use Rattle.writer.specs.declared.Written.TheVariants.{Length, Refused}
@@ -57,11 +57,11 @@ rows_refusal cat cells t = rows_fault (count_of cat t) (ones (scheme_of cat t)) 
 -- The rows of k tables from table t on.
 unfoldable pub cells_fault : ℕ → Catalogue → List ℕ → ℕ → ℕ
 cells_fault zero cat cells t = 0
-cells_fault (suc k) cat cells t = first_of (rows_refusal cat cells t) (cells_fault k cat cells (t + 1))
+cells_fault (suc k) cat cells t = first_met (rows_refusal cat cells t) (cells_fault k cat cells (t + 1))
 
 -- Everything but 11: what the catalogue meets (4; 5, 6, 8; 16), then row by row.
 unfoldable pub write_fault : Catalogue → List ℕ → ℕ
-write_fault cat cells = first_of (catalogue_fault cat (length cells)) (cells_fault cat.n cat cells 0)
+write_fault cat cells = first_met (catalogue_fault cat (length cells)) (cells_fault cat.n cat cells 0)
 
 -- What tables without such a fault are known to be.
 pub record Accepted (cat : Catalogue) (cells : List ℕ) : Type 0 where
@@ -79,7 +79,7 @@ written_of (suc k) len = Refused (suc k)
 
 -- The answer of a write into `room` bytes.
 unfoldable pub written : Catalogue → List ℕ → ℕ → Written
-written cat cells room = written_of (first_of (write_fault cat cells) (length_fault cat cells room)) (length (image_of cat cells))
+written cat cells room = written_of (first_met (write_fault cat cells) (length_fault cat cells room)) (length (image_of cat cells))
 
 -- "A refusal writes nothing. Success gives the length; bytes behind it stay."
 abbrev pub bytes_after_write : Written → List ℕ → List ℕ → List ℕ

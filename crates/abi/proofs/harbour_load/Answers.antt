@@ -31,4 +31,4 @@ returns c =
     let at-looked = at_count in
     let at-catalogue = at-looked in
     let at_load = at-catalogue in
-    load-done _ _ _ _ at_load.load-r.result _ _ _ _ _ (enough (goal.at.returns at_load).Else-too_few) at_load.load-r.ensures c.number_of_lem.ensures at-catalogue.put_catalogue.ensures at-looked.looked_of-count.ensures at_count.put_count.ensures
+    load-done _ _ _ _ at_load.load-r.result _ _ _ _ _ (enough (goal.at.returns at_load).Else-too_few) at_load.load-r.ensures c.number_of.ensures at-catalogue.put_catalogue.ensures at-looked.looked_of-count.ensures at_count.put_count.ensures

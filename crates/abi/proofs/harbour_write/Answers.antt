@@ -17,7 +17,7 @@ enough c = sym c.too_few.ensures ∙ c.if-too_few.false
 -- Where the writer has answered, only the number is left to show.
 answered : (c : After-write) (k : ℕ) → k ≡ written_number c.write.result →
     let a = c.args in
-    WriteCall a.catalogue.now a.cells.now a.out.now k c.write.new.1.1.0
+    WriteCall a.catalogue.now a.cells.now a.out.now k c.write.new.out
 answered c k e = write_done _ _ _ _ _ k _ (enough (goal.at-After-write c).Else-too_few) c.catalogue_in-cat.ensures c.write.ensures e
 
 pub returns-then-too_few : goal.returns-then-too_few

@@ -20,28 +20,28 @@ returns-then-i-lt2 c =
 pub returns-then-i-lt-COUNTS_AT : goal.returns-then-i-lt-COUNTS_AT
 returns-then-i-lt-COUNTS_AT c =
     let a = c.args in
-    let s : length a.t1.schemes ≡ most_tables = search rules in
-    sym (words-scheme a.t1 s a.i (omega arith) (omega arith))
+    let s : length a.cat.schemes ≡ most_tables = search rules in
+    sym (words-scheme a.cat s a.i (omega arith) (omega arith))
 
 pub returns-then-i-lt-PLACES_AT : goal.returns-then-i-lt-PLACES_AT
 returns-then-i-lt-PLACES_AT c =
     let a = c.args in
-    let s : length a.t1.schemes ≡ most_tables = search rules in
-    let r : length a.t1.rows ≡ most_tables = search rules in
-    sym (words_count a.t1 s r a.i (omega arith) (omega arith))
+    let s : length a.cat.schemes ≡ most_tables = search rules in
+    let r : length a.cat.rows ≡ most_tables = search rules in
+    sym (words_count a.cat s r a.i (omega arith) (omega arith))
 
 pub returns-then-i-lt-MASKS_AT : goal.returns-then-i-lt-MASKS_AT
 returns-then-i-lt-MASKS_AT c =
     let a = c.args in
-    let s : length a.t1.schemes ≡ most_tables = search rules in
-    let r : length a.t1.rows ≡ most_tables = search rules in
-    let p : length a.t1.places ≡ most_tables = search rules in
-    sym (words-place a.t1 s r p a.i (omega arith) (omega arith))
+    let s : length a.cat.schemes ≡ most_tables = search rules in
+    let r : length a.cat.rows ≡ most_tables = search rules in
+    let p : length a.cat.places ≡ most_tables = search rules in
+    sym (words-place a.cat s r p a.i (omega arith) (omega arith))
 
 pub returns : goal.returns
 returns c =
     let a = c.args in
-    let s : length a.t1.schemes ≡ most_tables = search rules in
-    let r : length a.t1.rows ≡ most_tables = search rules in
-    let p : length a.t1.places ≡ most_tables = search rules in
-    sym (words-mask a.t1 s r p a.i (omega arith))
+    let s : length a.cat.schemes ≡ most_tables = search rules in
+    let r : length a.cat.rows ≡ most_tables = search rules in
+    let p : length a.cat.places ≡ most_tables = search rules in
+    sym (words-mask a.cat s r p a.i (omega arith))

@@ -1,6 +1,5 @@
 -- `exporter::write_text` meets its contract: the table's refusals, then 11, then the text. Assumes nothing.
 use native.Mathlib.Omega.{arith}
-use Prim.Native.Nat.{◌-◌}
 use Rattle.exporter.proofs.WriteLaws.{writes-refused, writes_short, writes-text}
 use Rattle.exporter.proofs.write_text.Goals as goal
 

@@ -1,9 +1,8 @@
 -- `hub::among_from` meets its contract. Invariant: none of the keys passed is the sought one. Assumes nothing.
 use borrow.Author.Tests.{eqb-true, eqb-false}
 use native.Mathlib.Omega.{arith}
-use Prim.Native.Nat.{◌-◌, ◌<◌}
+use Prim.Native.Nat.{◌<◌}
 use mathlib.Core.Path.{◌≡◌, sym, ◌∙◌}
-use mathlib.Core.Bool.{false}
 use lib.ListN.{length, get_or}
 use Rattle.keys.specs.TwoWords.{number_in}
 use Rattle.hub.specs.Promises.{listed_keys}

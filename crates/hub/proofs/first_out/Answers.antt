@@ -1,13 +1,13 @@
 -- `hub::first_out` meets its contract. Invariant: what the trials of the rows from here on reach decides. Assumes nothing.
 use borrow.Author.Tests.{not-true, not-false}
 use native.Mathlib.Omega.{arith}
-use Prim.Native.Nat.{ℕ, ◌-◌, ◌<◌}
+use Prim.Native.Nat.{ℕ, ◌<◌}
 use mathlib.Core.Path.{◌≡◌, refl, sym, ap, ◌∙◌}
 use lib.ListN.{length}
 use Rattle.keys.specs.Keys.{bits_per_row, key_of}
 use Rattle.tables.specs.Catalogues.{total}
 use Rattle.tables.proofs.CatalogueLaws.{lawful-all}
-use Rattle.disjunction.specs.Rule.{Place, rows, row_at, trial}
+use Rattle.disjunction.specs.Rule.{Place, row_at, trial}
 use Rattle.rows.specs.World.{world_of, set_of}
 use Rattle.rows.proofs.WorldLaws.{row-place}
 use Rattle.rows.proofs.NamedLaws.{place-there}

@@ -2,7 +2,6 @@
 use Prim.Native.Nat.{◌-◌, ◌≤◌}
 use mathlib.Core.Path.{◌≡◌}
 use lib.ListN.{drop}
-use Rattle.tables.specs.Catalogues.{total}
 use Rattle.disjunction.specs.Rule.{rows}
 use Rattle.rows.specs.World.{world_of, set_of}
 use Rattle.keys.specs.TwoWords.{number_of}

@@ -2,12 +2,9 @@
 use borrow.Author.Count.{below_more}
 use borrow.Author.Tests.{not-true, not-false}
 use native.Mathlib.Omega.{arith}
-use Prim.Native.Nat.{◌-◌}
 use mathlib.Core.Path.{sym, ◌∙◌}
-use mathlib.Core.Bool.{true}
 use Rattle.laws.proofs.TestLaws.{clash, not_yes, all-each, all_of}
 use Rattle.tables.proofs.CatalogueLaws.{lawful-all}
-use Rattle.disjunction.specs.Standing.{gives_back}
 use Rattle.rows.proofs.NamedLaws.{named-iff}
 use Rattle.hub.proofs.JudgingLaws.{lost-standing, named-standing}
 use Rattle.hub.proofs.is_maximal.Goals as goal

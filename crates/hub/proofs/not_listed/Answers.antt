@@ -5,4 +5,4 @@ use Rattle.hub.specs.declared.ListVerdict.TheVariants.{Missing}
 use Rattle.hub.proofs.not_listed.Goals as goal
 
 pub returns : goal.returns
-returns c = ap₂ (λ (x y : ℕ). Missing (record { low = x; high = y })) c.low_word-low.ensures c.high_word_lem.ensures
+returns c = ap₂ (λ (x y : ℕ). Missing (record { low = x; high = y })) c.low_word-low.ensures c.high_word-high.ensures

@@ -17,25 +17,25 @@ pub loop-p-init : goal.loop-p-init
 unfolding blank
 loop-p-init c =
     let f = c.first_lines-p in
-    (([], printing-first f.ensures), refl, refl, refl, refl, refl, f.auto.1.1.1.1.1.1.1.0)
+    (([], printing-first f.ensures), refl, refl, refl, refl, refl, f.auto.out)
 
 pub written-requires : goal.written-requires
 written-requires c = c.loop-p.invariant.0.1.filled
 
 pub shape_of-cells-then-not-written : goal.shape_of-cells-then-not-written
-shape_of-cells-then-not-written c = c.first_lines-p.auto.1.1.0
+shape_of-cells-then-not-written c = c.first_lines-p.auto.cells
 
 pub shape_of-low-then-not-written : goal.shape_of-low-then-not-written
-shape_of-low-then-not-written c = c.loop-p.invariant.1 ∙ c.first_lines-p.auto.1.1.1.0
+shape_of-low-then-not-written c = c.loop-p.invariant.1 ∙ c.first_lines-p.auto.low
 
 pub shape_of-high-then-not-written : goal.shape_of-high-then-not-written
-shape_of-high-then-not-written c = c.loop-p.invariant.2 ∙ c.first_lines-p.auto.1.1.1.1.0
+shape_of-high-then-not-written c = c.loop-p.invariant.2 ∙ c.first_lines-p.auto.high
 
 pub shape_of-left-then-not-written : goal.shape_of-left-then-not-written
-shape_of-left-then-not-written c = c.loop-p.invariant.3 ∙ c.first_lines-p.auto.1.1.1.1.1.0
+shape_of-left-then-not-written c = c.loop-p.invariant.3 ∙ c.first_lines-p.auto.left
 
 pub shape_of-right-then-not-written : goal.shape_of-right-then-not-written
-shape_of-right-then-not-written c = c.loop-p.invariant.4 ∙ c.first_lines-p.auto.1.1.1.1.1.1.0
+shape_of-right-then-not-written c = c.loop-p.invariant.4 ∙ c.first_lines-p.auto.right
 
 pub more_lines-p-requires : goal.more_lines-p-requires
 more_lines-p-requires c =
@@ -50,28 +50,28 @@ loop-p-preserved c =
     let l = c.loop-p in
     let m = c.more_lines-p in (
       (_, printing-next l.invariant.0.1 m.ensures.1),
-      m.auto.1.1.0 ∙ l.invariant.1,
-      m.auto.1.1.1.0 ∙ l.invariant.2,
-      m.auto.1.1.1.1.0 ∙ l.invariant.3,
-      m.auto.1.1.1.1.1.0 ∙ l.invariant.4,
-      m.auto.1.1.1.1.1.1.0 ∙ l.invariant.5,
-      m.auto.1.1.1.1.1.1.1.0 ∙ l.invariant.6,
+      m.auto.low ∙ l.invariant.1,
+      m.auto.high ∙ l.invariant.2,
+      m.auto.left ∙ l.invariant.3,
+      m.auto.right ∙ l.invariant.4,
+      m.auto.padded ∙ l.invariant.5,
+      m.auto.out ∙ l.invariant.6,
     )
 
 pub written-requires-2 : goal.written-requires-2
 written-requires-2 c = c.loop-p.invariant.0.1.filled
 
 pub shape_of-cells : goal.shape_of-cells
-shape_of-cells c = c.first_lines-p.auto.1.1.0
+shape_of-cells c = c.first_lines-p.auto.cells
 
 pub shape_of-low : goal.shape_of-low
-shape_of-low c = c.loop-p.invariant.1 ∙ c.first_lines-p.auto.1.1.1.0
+shape_of-low c = c.loop-p.invariant.1 ∙ c.first_lines-p.auto.low
 
 pub shape_of-high : goal.shape_of-high
-shape_of-high c = c.loop-p.invariant.2 ∙ c.first_lines-p.auto.1.1.1.1.0
+shape_of-high c = c.loop-p.invariant.2 ∙ c.first_lines-p.auto.high
 
 pub shape_of-left : goal.shape_of-left
-shape_of-left c = c.loop-p.invariant.3 ∙ c.first_lines-p.auto.1.1.1.1.1.0
+shape_of-left c = c.loop-p.invariant.3 ∙ c.first_lines-p.auto.left
 
 pub shape_of-right : goal.shape_of-right
-shape_of-right c = c.loop-p.invariant.4 ∙ c.first_lines-p.auto.1.1.1.1.1.1.0
+shape_of-right c = c.loop-p.invariant.4 ∙ c.first_lines-p.auto.right

@@ -1,8 +1,7 @@
 -- `padding::code_at` meets its contract. Invariant: no table passed gives a code. Assumes nothing.
 use native.Mathlib.Omega.{arith}
-use Prim.Native.Nat.{◌-◌, ◌<◌}
+use Prim.Native.Nat.{◌<◌}
 use mathlib.Core.Path.{sym, ◌∙◌}
-use mathlib.Core.Bool.{false}
 use borrow.Author.Count.{below_more}
 use Rattle.keys.specs.TwoWords.{number_of}
 use Rattle.padding.proofs.PaddingLaws.{gives_row, code-first, code-null}

@@ -1,5 +1,4 @@
 -- `padding::code_of` meets its contract: the row's cells are there, so the code of an attribute that it has is. Assumes nothing.
-use Prim.Native.Nat.{◌-◌}
 use Rattle.tables.proofs.CatalogueLaws.{lawful-all}
 use Rattle.rows.specs.Named.{There}
 use Rattle.rows.proofs.WorldLaws.{row_room}

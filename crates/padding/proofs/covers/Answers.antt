@@ -1,8 +1,6 @@
 -- `padding::covers` meets its contract. Invariant: every value passed is kept. Assumes nothing.
 use native.Mathlib.Omega.{arith}
-use Prim.Native.Nat.{◌-◌}
 use mathlib.Core.Path.{sym, ◌∙◌}
-use mathlib.Core.Bool.{true}
 use borrow.Author.Count.{below_more}
 use borrow.Author.Tests.{not-true, not-false}
 use Rattle.padding.proofs.CoveringLaws.{covering-length, covering-bad, covering-good}

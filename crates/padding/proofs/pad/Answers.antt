@@ -1,6 +1,6 @@
 -- `padding::pad` meets its contract. Invariant: what is left of the padded row, written from here on, makes the whole answer. Assumes nothing.
 use native.Mathlib.Omega.{arith}
-use Prim.Native.Nat.{◌+◌, ◌-◌}
+use Prim.Native.Nat.{◌+◌}
 use mathlib.Core.Path.{refl, sym, ◌∙◌}
 use lib.ListN.{drop, length-set}
 use Rattle.laws.proofs.ListLaws.{put-cons, put-nil}

@@ -1,9 +1,8 @@
 -- `store::offer` meets its contract, case by case of what the search said; the place that it names is a record (`absent-place`). Assumes nothing.
-use mathlib.Core.Path.{◌≡◌, refl, sym, ◌∙◌}
+use mathlib.Core.Path.{refl, sym, ◌∙◌}
 use borrow.Author.Tests.{lt-ltb, le-ltb}
 use Rattle.keys.specs.TwoWords.{number_of}
-use Rattle.store.specs.Store.{Store, store_in, search_of, answer_of, store_after}
-use Rattle.store.specs.declared.Looked.TheVariants.{Absent}
+use Rattle.store.specs.Store.{store_in, answer_of, store_after}
 use Rattle.store.proofs.StoreLaws.{absent-place}
 use Rattle.store.proofs.offer.Goals as goal
 

@@ -9,18 +9,15 @@ use Rattle.stream.proofs.missing.Goals as goal
 
 pub returns-then-rows_there-r : goal.returns-then-rows_there-r
 returns-then-rows_there-r c =
-    let g = c.scope-1.given in
     let a = c.args in
-    rw g.1 (stray-known a.cat g.0.0 g.0.1.0 true c.if-r-eq0.false (lt-ltb (rows_there a.cat g.0.0) g.0.1.0 (omega (arith, c.rows_there.ensures, c.if-rows_there-r.true))))
+    rw c.in-With.is (stray-known a.cat c.in-With.t c.in-With.r true c.if-r-eq0.false (lt-ltb (rows_there a.cat c.in-With.t) c.in-With.r (omega (arith, c.rows_there.ensures, c.if-rows_there-r.true))))
 
 pub returns-then-t-cat : goal.returns-then-t-cat
 returns-then-t-cat c =
-    let g = c.scope-1.given in
     let a = c.args in
-    rw g.1 (stray-known a.cat g.0.0 g.0.1.0 false c.if-r-eq0.false (le-ltb (rows_there a.cat g.0.0) g.0.1.0 (omega (arith, c.rows_there.ensures, c.if-rows_there-r.false))))
+    rw c.in-With.is (stray-known a.cat c.in-With.t c.in-With.r false c.if-r-eq0.false (le-ltb (rows_there a.cat c.in-With.t) c.in-With.r (omega (arith, c.rows_there.ensures, c.if-rows_there-r.false))))
 
 pub returns-else-t-cat : goal.returns-else-t-cat
 returns-else-t-cat c =
-    let g = c.scope-1.given in
     let a = c.args in
-    rw g.1 (stray-known a.cat g.0.0 g.0.1.0 true c.if-r-eq0.false (lt-ltb (rows_there a.cat g.0.0) g.0.1.0 (omega (arith, there_out a.cat g.0.0 c.if-t-cat.false, c.if-r-eq0.false))))
+    rw c.in-With.is (stray-known a.cat c.in-With.t c.in-With.r true c.if-r-eq0.false (lt-ltb (rows_there a.cat c.in-With.t) c.in-With.r (omega (arith, there_out a.cat c.in-With.t c.if-t-cat.false, c.if-r-eq0.false))))

@@ -12,7 +12,7 @@ use Rattle.machine.proofs.TrialLaws.{found_after, trial_had, trial-lost, trial-u
 use Rattle.stream.specs.Promises.{asked_of, state_with}
 use Rattle.stream.proofs.StreamLaws.{taken-some, keys-long, offer-stays, asked-reached, key-wanted}
 use mathlib.Core.Logic.{inl, inr}
-use Rattle.stream.proofs.trial.Goals.{After-offer, After-wants, Else-not-wants}
+use Rattle.stream.proofs.trial.Goals.{After-offer, After-wants}
 use Rattle.stream.proofs.trial.Goals as goal
 
 pub overflow_sub-last : goal.overflow_sub-last
@@ -54,7 +54,7 @@ ends : (c : After-offer)
     → let a = c.args in
     trial_on a.cat a.cells.now (state_with (asked_of a.scope) a.s a.low.now a.high.now a.left.now a.right.now)
     ≡ placed (state_with (asked_of a.scope) a.s a.low.now a.high.now a.left.now a.right.now) c.trial_set-g.result.tests c.offer.result
-    (store_in c.offer.new.0 c.offer.new.1.0 c.offer.new.1.1.0 c.offer.new.1.1.1.0 (found_after a.s.found c.offer.result))
+    (store_in c.offer.new.low c.offer.new.high c.offer.new.left c.offer.new.right (found_after a.s.found c.offer.result))
 ends c =
     let a = c.args in
     let p = c.requires in
@@ -64,7 +64,7 @@ ends c =
     let y = c.key_at-key.ensures in
     offer-trial a.cat a.cells.now (state_with (asked_of a.scope) a.s a.low.now a.high.now a.left.now a.right.now) _ _ c.offer.result _ _ _ _ p.3
     (rw y at (sym c.key_named.ensures ∙ not-false _ c.if-not-key_named.false-raw))
-    (sym (wanted-had (goal.at-After-offer c).Else-not-wants) ∙ not-false _ c.if-not-wants.false-raw) (rw (e, y) at g.key) (rw (e, y) at g.tests) (rw k at c.offer.ensures)
+    (sym (wanted-had (goal.at-After-offer c).After-wants) ∙ not-false _ c.if-not-wants.false-raw) (rw (e, y) at g.key) (rw (e, y) at g.tests) (rw k at c.offer.ensures)
 
 pub wants-requires : goal.wants-requires
 wants-requires c =

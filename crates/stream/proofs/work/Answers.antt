@@ -20,21 +20,17 @@ use Rattle.stream.proofs.work.Goals as goal
 goes : (c : In-Done)
     → let l = c.loop-next_row in
     let a = c.args in
-    let d = c.f-1.given.0 in
-    let k = c.trial.new.1.1.1 in
-    (Fit a.cat (state_for (asked_of a.scope) k.0 k.1.0 k.1.1.0 k.1.1.1.0 d.0 a.s.taken (l.next_row + 1)))
+    (Fit a.cat (state_for (asked_of a.scope) c.trial.new.low c.trial.new.high c.trial.new.left c.trial.new.right c.in-Done.f a.s.taken (l.next_row + 1)))
     × (work a.cat a.cells.now a.budget (state_with (asked_of a.scope) a.s a.low.now a.high.now a.left.now a.right.now) a.padded.now
-    ≡ piled (l.trials + 1) (l.tests + d.1.0) (l.looks + d.1.1.0)
-    (work a.cat a.cells.now (l.spare - 1) (state_for (asked_of a.scope) k.0 k.1.0 k.1.1.0 k.1.1.1.0 d.0 a.s.taken (l.next_row + 1)) a.padded.now))
+    ≡ piled (l.trials + 1) (l.tests + c.in-Done.t) (l.looks + c.in-Done.l)
+    (work a.cat a.cells.now (l.spare - 1) (state_for (asked_of a.scope) c.trial.new.low c.trial.new.high c.trial.new.left c.trial.new.right c.in-Done.f a.s.taken (l.next_row + 1)) a.padded.now))
 goes c =
     let l = c.loop-next_row in
     let a = c.args in
     let n = c.total_rows-total.ensures in
-    let d = c.f-1.given.0 in
-    let k = c.trial.new.1.1.1 in
     let e : trial_on a.cat a.cells.now (state_for (asked_of a.scope) l.low l.high l.left l.right l.found a.s.taken l.next_row)
-    ≡ done (state_for (asked_of a.scope) k.0 k.1.0 k.1.1.0 k.1.1.1.0 d.0 a.s.taken (l.next_row + 1)) d.1.0 d.1.1.0 =
-    rw c.f-1.given.1 at c.trial.ensures.same in
+    ≡ done (state_for (asked_of a.scope) c.trial.new.low c.trial.new.high c.trial.new.left c.trial.new.right c.in-Done.f a.s.taken (l.next_row + 1)) c.in-Done.t c.in-Done.l =
+    rw c.in-Done.is at c.trial.ensures.same in
     let h : l.next_row < total a.cat = omega (arith, n, c.loop-next_row-test.true) in (
       (trial-fit a.cat a.cells.now _ _ _ _ l.invariant.0 h e).1,
       l.invariant.1 ∙ loop-on a.cat a.cells.now a.padded.now l.trials l.tests l.looks l.spare _ _ _ _ (λ z. omega arith) (omega (arith, c.if-spare-eq0.false)) e,
@@ -43,8 +39,7 @@ goes c =
 -- Its counts are small.
 small : (c : In-Done)
     → let l = c.loop-next_row in
-    let d = c.f-1.given.0 in
-    (l.trials + 1 ≤ most_total) × (l.tests + d.1.0 ≤ most_total * most_tests) × (l.looks + d.1.1.0 ≤ most_total * most_looks)
+    (l.trials + 1 ≤ most_total) × (l.tests + c.in-Done.t ≤ most_total * most_tests) × (l.looks + c.in-Done.l ≤ most_total * most_looks)
 small c =
     let a = c.args in
     let p = c.requires in
@@ -106,20 +101,20 @@ pub loop-next_row-preserved : goal.loop-next_row-preserved
 loop-next_row-preserved c =
     let l = c.loop-next_row in
     let g = goes c in
-    let k = c.trial.auto.1.1.1 in
-    (g.0, g.1, k.0 ∙ l.invariant.2, k.1.0 ∙ l.invariant.3, k.1.1.0 ∙ l.invariant.4, k.1.1.1.0 ∙ l.invariant.5)
+    let k = c.trial.auto in
+    (g.0, g.1, k.low ∙ l.invariant.2, k.high ∙ l.invariant.3, k.left ∙ l.invariant.4, k.right ∙ l.invariant.5)
 
 pub shape_of-low-in-Full : goal.shape_of-low-in-Full
-shape_of-low-in-Full c = c.trial.auto.1.1.1.0 ∙ c.loop-next_row.invariant.2
+shape_of-low-in-Full c = c.trial.auto.low ∙ c.loop-next_row.invariant.2
 
 pub shape_of-high-in-Full : goal.shape_of-high-in-Full
-shape_of-high-in-Full c = c.trial.auto.1.1.1.1.0 ∙ c.loop-next_row.invariant.3
+shape_of-high-in-Full c = c.trial.auto.high ∙ c.loop-next_row.invariant.3
 
 pub shape_of-left-in-Full : goal.shape_of-left-in-Full
-shape_of-left-in-Full c = c.trial.auto.1.1.1.1.1.0 ∙ c.loop-next_row.invariant.4
+shape_of-left-in-Full c = c.trial.auto.left ∙ c.loop-next_row.invariant.4
 
 pub shape_of-right-in-Full : goal.shape_of-right-in-Full
-shape_of-right-in-Full c = c.trial.auto.1.1.1.1.1.1.0 ∙ c.loop-next_row.invariant.5
+shape_of-right-in-Full c = c.trial.auto.right ∙ c.loop-next_row.invariant.5
 
 pub returns-in-Full : goal.returns-in-Full
 returns-in-Full c =
@@ -133,16 +128,16 @@ returns-in-Full c =
     (sym (l.invariant.1 ∙ loop-full a.cat a.cells.now a.padded.now l.trials l.tests l.looks l.spare _ (λ z. omega (arith, n, c.loop-next_row-test.true, z)) (omega (arith, c.if-spare-eq0.false)) (x.same ∙ rw e)))
 
 pub shape_of-low-in-Damaged : goal.shape_of-low-in-Damaged
-shape_of-low-in-Damaged c = c.trial.auto.1.1.1.0 ∙ c.loop-next_row.invariant.2
+shape_of-low-in-Damaged c = c.trial.auto.low ∙ c.loop-next_row.invariant.2
 
 pub shape_of-high-in-Damaged : goal.shape_of-high-in-Damaged
-shape_of-high-in-Damaged c = c.trial.auto.1.1.1.1.0 ∙ c.loop-next_row.invariant.3
+shape_of-high-in-Damaged c = c.trial.auto.high ∙ c.loop-next_row.invariant.3
 
 pub shape_of-left-in-Damaged : goal.shape_of-left-in-Damaged
-shape_of-left-in-Damaged c = c.trial.auto.1.1.1.1.1.0 ∙ c.loop-next_row.invariant.4
+shape_of-left-in-Damaged c = c.trial.auto.left ∙ c.loop-next_row.invariant.4
 
 pub shape_of-right-in-Damaged : goal.shape_of-right-in-Damaged
-shape_of-right-in-Damaged c = c.trial.auto.1.1.1.1.1.1.0 ∙ c.loop-next_row.invariant.5
+shape_of-right-in-Damaged c = c.trial.auto.right ∙ c.loop-next_row.invariant.5
 
 pub returns-in-Damaged : goal.returns-in-Damaged
 returns-in-Damaged c =

@@ -43,4 +43,4 @@ returns c =
     o.catalogue_in-cat.ensures
     ∙ ap (λ (x : StreamRecord). call (catalogue_in a.catalogue.now) a.cells.now a.budget (state_of x a.low.now a.high.now a.left.now a.right.now) a.padded.now)
     s.ensures)
-    c.number_of_lem.ensures c.put_record.ensures c.put_result.ensures
+    c.number_of.ensures c.put_record.ensures c.put_result.ensures

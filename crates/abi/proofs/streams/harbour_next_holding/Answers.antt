@@ -42,4 +42,4 @@ returns c =
     o.catalogue_in-cat.ensures
     ∙ ap (λ (x : HoldingRecord). call (catalogue_in a.catalogue.now) a.cells.now a.budget (holding_state_of x a.low.now a.high.now a.left.now a.right.now) a.padded.now)
     s.ensures)
-    c.number_of_lem.ensures c.put_holding.ensures c.put_result.ensures
+    c.number_of.ensures c.put_holding.ensures c.put_result.ensures

@@ -16,10 +16,10 @@ enough : (c : Else-open_short) → open_short record_words c.args.catalogue.now 
 enough c = sym c.open_short.ensures ∙ c.if-open_short.false
 
 -- What is answered fits a word.
-low : (c : After-open-r) → c.«open».result.tests * 32 + c.«open».result.refusal < 18446744073709551616
+low : (c : After-open-r) → c.open-r.result.tests * 32 + c.open-r.result.refusal < 18446744073709551616
 low c =
-    let h : c.«open».result.refusal < 18446744073709551616 = search rules in
-    opened-low _ _ _ _ _ _ _ _ 18446744073709551616 c.«open».ensures (omega arith) h
+    let h : c.open-r.result.refusal < 18446744073709551616 = search rules in
+    opened-low _ _ _ _ _ _ _ _ 18446744073709551616 c.open-r.ensures (omega arith) h
 
 pub returns-then-open_short : goal.returns-then-open_short
 returns-then-open_short c = open-short _ _ _ _ _ _ _ (sym c.open_short.ensures ∙ c.if-open_short.true)
@@ -40,7 +40,7 @@ pub returns : goal.returns
 returns c =
     let o = c in
     let a = o.args in
-    let r = (goal.at.returns o).After-open-r.«open».result in
+    let r = (goal.at.returns o).After-open-r.open-r.result in
     open_done _ _ _ _ _ _ _ every_set r _ _ _ _ _ _ (enough (goal.at.returns o).Else-open_short)
-    ((goal.at.returns o).After-open-r.«open».ensures ∙ ap (λ (x : Catalogue). opening x a.cells.now a.low.now a.high.now a.left.now a.right.now) o.catalogue_in-cat.ensures)
+    ((goal.at.returns o).After-open-r.open-r.ensures ∙ ap (λ (x : Catalogue). opening x a.cells.now a.low.now a.high.now a.left.now a.right.now) o.catalogue_in-cat.ensures)
     refl c.put_record.ensures

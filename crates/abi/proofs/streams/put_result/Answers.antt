@@ -25,4 +25,4 @@ returns c =
     let s = c in
     put_five _ _ _ _ _ s.args.words.now s.requires
     ∙ ap₂ (λ (x y : ℕ). put (result_of x y s.args.trials s.args.tests s.args.looks) s.args.words.now)
-    c.low_word.ensures c.high_word_lem.ensures
+    c.low_word.ensures c.high_word.ensures

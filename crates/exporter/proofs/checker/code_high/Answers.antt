@@ -1,6 +1,5 @@
 -- `exporter::checker::code_high` meets its contract. Invariant: no code passed is too high, so what is left decides. Assumes nothing.
 use native.Mathlib.Omega.{arith}
-use Prim.Native.Nat.{◌-◌}
 use mathlib.Core.Path.{sym, ◌∙◌}
 use Rattle.exporter.proofs.CheckLaws.{high-none, high-here, high-more}
 use Rattle.exporter.proofs.checker.code_high.Goals as goal

@@ -1,5 +1,5 @@
 -- `exporter::checker::code_high` meets its contract. Invariant: no code passed is too high, so what is left decides. Assumes nothing.
-use Prim.Native.Nat.{◌+◌, ◌-◌, ◌≤◌}
+use Prim.Native.Nat.{◌+◌, ◌≤◌}
 use mathlib.Core.Path.{◌≡◌}
 use lib.ListN.{length}
 use Rattle.laws.specs.Lists.{part}

@@ -1,6 +1,5 @@
 -- `exporter::checker::fault` meets its contract: the table's own refusal, then its rows'. Assumes nothing.
 use native.Mathlib.Omega.{arith}
-use Prim.Native.Nat.{◌-◌}
 use mathlib.Core.Path.{◌≡◌, sym, ◌∙◌}
 use lib.ListN.{length}
 use Rattle.text.specs.Writing.{table_fault}

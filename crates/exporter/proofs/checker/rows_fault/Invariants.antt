@@ -1,5 +1,5 @@
 -- `exporter::checker::rows_fault` meets its contract. Invariant: the rows so far meet nothing, so those behind decide. Assumes nothing.
-use Prim.Native.Nat.{◌+◌, ◌-◌, ◌*◌, ◌≤◌}
+use Prim.Native.Nat.{◌+◌, ◌*◌, ◌≤◌}
 use mathlib.Core.Path.{◌≡◌}
 use lib.ListN.{length}
 use Rattle.text.specs.Writing.{all_fault, cut}

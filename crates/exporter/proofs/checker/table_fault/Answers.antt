@@ -1,6 +1,5 @@
 -- `exporter::checker::table_fault` meets its contract: one law for each way it goes. Assumes nothing.
 use native.Mathlib.Omega.{arith}
-use Prim.Native.Nat.{◌-◌}
 use mathlib.Core.Path.{sym, ◌∙◌}
 use Rattle.exporter.proofs.CheckLaws.{text-cells-few, m-low, m-high, scheme-out, rows-many, cells-many, cells-short, table-good}
 use Rattle.exporter.proofs.checker.table_fault.Goals as goal
@@ -27,8 +26,7 @@ returns-then-rows-gt4095 c =
 
 pub overflow_mul-cells : goal.overflow_mul-cells
 overflow_mul-cells c =
-    let st = c in
-    rw c.width.ensures (omega (arith, text-cells-few st.args.rows st.args.scheme (omega (arith, c.if-rows-gt4095.false)) st.ranges.scheme.fits))
+    rw c.width.ensures (omega (arith, text-cells-few c.args.rows c.args.scheme (omega (arith, c.if-rows-gt4095.false)) c.ranges.scheme.fits))
 
 pub returns-then-cells-gt8192 : goal.returns-then-cells-gt8192
 returns-then-cells-gt8192 c =

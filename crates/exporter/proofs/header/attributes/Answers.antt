@@ -19,18 +19,16 @@ loop-a-init c =
 
 pub loop-a-preserved : goal.loop-a-preserved
 loop-a-preserved c =
-    let t = c in
-    let l = t.loop-a in
-    let st = t in
-    let a = st.args in
+    let l = c.loop-a in
+    let a = c.args in
     let p = c.put_attribute-k.ensures in
     let few = attribute-few (eqb (l.x % 2) 1) (l.a + 1) in
-    let room : l.k + length (code_if (eqb (l.x % 2) 1) (l.a + 1) []) ≤ length l.codes = omega (arith, few, l.invariant, t.loop-a-test.true, st.requires) in
+    let room : l.k + length (code_if (eqb (l.x % 2) 1) (l.a + 1) []) ≤ length l.codes = omega (arith, few, l.invariant, c.loop-a-test.true, c.requires) in
     let e : a.m - l.a - 1 ≡ a.m - (l.a + 1) = omega arith in (
-      omega (arith, t.loop-a-test.true),
+      omega (arith, c.loop-a-test.true),
       omega (arith, p.next, few, l.invariant.1),
       placed-length room p ∙ l.invariant.2,
-      l.invariant.3 ∙ rw (attributes-more (a.m - l.a) l.a l.x (omega (arith, t.loop-a-test.true)), e) (placed-rest room p _),
+      l.invariant.3 ∙ rw (attributes-more (a.m - l.a) l.a l.x (omega (arith, c.loop-a-test.true)), e) (placed-rest room p _),
     )
 
 pub returns : goal.returns

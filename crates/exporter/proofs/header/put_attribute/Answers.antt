@@ -1,6 +1,6 @@
 -- `exporter::header::put_attribute` meets its contract: one code or none.  Assumes nothing.
 use native.Mathlib.Omega.{arith}
-use Prim.Native.Nat.{◌+◌, ◌-◌}
+use Prim.Native.Nat.{◌+◌}
 use mathlib.Core.Path.{sym, ◌∙◌}
 use mathlib.Core.List.{[]}
 use lib.ListN.{set}
@@ -10,10 +10,9 @@ use Rattle.exporter.proofs.header.put_attribute.Goals as goal
 
 pub returns-then-x-eq1 : goal.returns-then-x-eq1
 returns-then-x-eq1 c =
-    let st = c in
-    let a = st.args in
+    let a = c.args in
     rw (bit-set a.x a.code c.if-x-eq1.true)
-    (record { next = omega arith; bytes = sym (put-cons a.codes.now a.k a.code [] st.requires ∙ put-nil (set a.codes.now a.k a.code) (a.k + 1)) })
+    (record { next = omega arith; bytes = sym (put-cons a.codes.now a.k a.code [] c.requires ∙ put-nil (set a.codes.now a.k a.code) (a.k + 1)) })
 
 pub returns : goal.returns
 returns c =

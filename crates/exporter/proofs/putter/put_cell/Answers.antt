@@ -1,6 +1,5 @@
 -- `exporter::putter::put_cell` meets its contract: nothing for null, else the digits of the value. Assumes nothing.
 use native.Mathlib.Omega.{arith}
-use Prim.Native.Nat.{◌-◌}
 use mathlib.Core.Path.{sym, ap}
 use lib.ListN.{length}
 use Rattle.laws.proofs.ListLaws.{put-nil}
@@ -14,8 +13,7 @@ returns-then-code-eq0 c =
 
 pub put_decimal-requires : goal.put_decimal-requires
 put_decimal-requires c =
-    let st = c in
-    omega (arith, st.requires, ap length (cell-some st.args.code (λ e. c.if-code-eq0.false e)))
+    omega (arith, c.requires, ap length (cell-some c.args.code (λ e. c.if-code-eq0.false e)))
 
 pub returns : goal.returns
 returns c =

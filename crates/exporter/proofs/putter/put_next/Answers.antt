@@ -1,6 +1,5 @@
 -- `exporter::putter::put_next` meets its contract: the cell stands behind the comma. Assumes nothing.
 use native.Mathlib.Omega.{arith}
-use Prim.Native.Nat.{◌-◌}
 use Rattle.laws.proofs.PlacedLaws.{placed-append}
 use Rattle.exporter.proofs.putter.put_next.Goals as goal
 

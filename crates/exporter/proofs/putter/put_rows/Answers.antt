@@ -1,6 +1,6 @@
 -- `exporter::putter::put_rows` meets its contract. Invariant: the lines that are left, from the cursor on, make the whole. Assumes nothing.
 use native.Mathlib.Omega.{arith}
-use Prim.Native.Nat.{◌+◌, ◌-◌, ◌≤◌}
+use Prim.Native.Nat.{◌+◌, ◌≤◌}
 use mathlib.Core.Path.{refl, sym, ap, ◌∙◌}
 use lib.ListN.{length, drop}
 use Rattle.laws.specs.Lists.{part}
@@ -17,33 +17,30 @@ loop-left-init c =
 
 pub put_line-at-requires : goal.put_line-at-requires
 put_line-at-requires c =
-    let st = c in
-    let a = st.args in
+    let a = c.args in
     let l = c.loop-left in
     let t = c.loop-left-test.true in
     let q = room-less l.left a.w t in
     let k = lines-length l.left a.w a.cells.now l.from t in
-    (st.requires.0, omega (arith, l.invariant.0, q), omega (arith, l.invariant, st.requires.2, k))
+    (c.requires.0, omega (arith, l.invariant.0, q), omega (arith, l.invariant, c.requires.2, k))
 
 pub overflow_add-from : goal.overflow_add-from
 overflow_add-from c =
-    let st = c in
-    let a = st.args in
+    let a = c.args in
     let l = c.loop-left in
     let t = c.loop-left-test.true in
     let q = room-less l.left a.w t in
-    omega (arith, l.invariant.0, q, st.well-formed)
+    omega (arith, l.invariant.0, q, c.well_formed)
 
 pub loop-left-preserved : goal.loop-left-preserved
 loop-left-preserved c =
-    let st = c in
-    let a = st.args in
+    let a = c.args in
     let l = c.loop-left in
     let t = c.loop-left-test.true in
     let q = room-less l.left a.w t in
     let k = lines-length l.left a.w a.cells.now l.from t in
     let p = c.put_line-at.ensures in
-    let room : l.at + length (line_text (part l.from a.w a.cells.now)) ≤ length l.out = omega (arith, l.invariant, st.requires.2, k) in (
+    let room : l.at + length (line_text (part l.from a.w a.cells.now)) ≤ length l.out = omega (arith, l.invariant, c.requires.2, k) in (
       omega (arith, l.invariant.0, q),
       placed-length room p ∙ l.invariant.1,
       omega (arith, p.next, l.invariant.2, k),

@@ -1,5 +1,5 @@
 -- `exporter::putter::put_rows` meets its contract. Invariant: the lines that are left, from the cursor on, make the whole. Assumes nothing.
-use Prim.Native.Nat.{◌+◌, ◌-◌, ◌*◌, ◌≤◌}
+use Prim.Native.Nat.{◌+◌, ◌*◌, ◌≤◌}
 use mathlib.Core.Path.{◌≡◌}
 use lib.ListN.{length, drop}
 use Rattle.laws.specs.Lists.{over}

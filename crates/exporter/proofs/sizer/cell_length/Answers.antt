@@ -1,5 +1,4 @@
 -- `exporter::sizer::cell_length` meets its contract: nothing for null, else the digits of the value. Assumes nothing.
-use Prim.Native.Nat.{◌-◌}
 use mathlib.Core.Path.{sym, ap, ◌∙◌}
 use lib.ListN.{length}
 use Rattle.exporter.proofs.TextLaws.{cell-null, cell-some}

@@ -1,5 +1,5 @@
 -- `exporter::sizer::line_length` meets its contract. Invariant: what is counted and what is left to count make the whole. Assumes nothing.
-use Prim.Native.Nat.{◌+◌, ◌-◌, ◌≤◌}
+use Prim.Native.Nat.{◌+◌, ◌≤◌}
 use mathlib.Core.Path.{◌≡◌}
 use lib.ListN.{length}
 use Rattle.laws.specs.Lists.{part}

@@ -1,6 +1,6 @@
 -- `exporter::sizer::rows_length` meets its contract. Invariant: what is counted and what is left to count make the whole. Assumes nothing.
 use native.Mathlib.Omega.{arith}
-use Prim.Native.Nat.{◌+◌, ◌-◌, ◌*◌}
+use Prim.Native.Nat.{◌+◌, ◌*◌}
 use mathlib.Core.Path.{ap}
 use native.Mathlib.Nat.{mul-le-mul_right}
 use lib.ListN.{length, drop}
@@ -14,37 +14,33 @@ loop-left-init c =
 
 pub line_length-sum-requires : goal.line_length-sum-requires
 line_length-sum-requires c =
-    let st = c in
-    let a = st.args in
+    let a = c.args in
     let l = c.loop-left in
     let t = c.loop-left-test.true in
     let q = room-less l.left a.w t in
-    (st.requires.0, st.requires.1, omega (arith, l.invariant.0, q))
+    (c.requires.0, c.requires.1, omega (arith, l.invariant.0, q))
 
 pub overflow_add-sum : goal.overflow_add-sum
 overflow_add-sum c =
-    let st = c in
-    let a = st.args in
+    let a = c.args in
     let l = c.loop-left in
     let t = c.loop-left-test.true in
     let q = room-less l.left a.w t in
     let k = lines-length l.left a.w a.cells.now l.from t in
-    let z = mul-le-mul_right (21 * a.w + 2) st.requires.2 in
-    rw c.line_length-sum.ensures (omega (arith, l.invariant.1, k, z, lines-few a.rows a.w a.cells.now, st.requires.1))
+    let z = mul-le-mul_right (21 * a.w + 2) c.requires.2 in
+    rw c.line_length-sum.ensures (omega (arith, l.invariant.1, k, z, lines-few a.rows a.w a.cells.now, c.requires.1))
 
 pub overflow_add-from : goal.overflow_add-from
 overflow_add-from c =
-    let st = c in
-    let a = st.args in
+    let a = c.args in
     let l = c.loop-left in
     let t = c.loop-left-test.true in
     let q = room-less l.left a.w t in
-    omega (arith, l.invariant.0, q, st.well-formed)
+    omega (arith, l.invariant.0, q, c.well_formed)
 
 pub loop-left-preserved : goal.loop-left-preserved
 loop-left-preserved c =
-    let st = c in
-    let a = st.args in
+    let a = c.args in
     let l = c.loop-left in
     let t = c.loop-left-test.true in
     let q = room-less l.left a.w t in

@@ -1,6 +1,6 @@
 -- `exporter::sizer::text_length` meets its contract: the header's line and the rows'. Assumes nothing.
 use native.Mathlib.Omega.{arith}
-use Prim.Native.Nat.{◌+◌, ◌-◌, ◌*◌}
+use Prim.Native.Nat.{◌+◌, ◌*◌}
 use mathlib.Core.Path.{sym}
 use native.Mathlib.Nat.{mul-le-mul_right}
 use lib.Count.{ones, ones-le}
@@ -12,34 +12,30 @@ use Rattle.exporter.proofs.sizer.text_length.Goals as goal
 
 pub attributes-requires : goal.attributes-requires
 attributes-requires c =
-    let st = c in
-    let a = st.args in
-    let p = good-table a.m a.scheme a.rows a.cells.now st.requires in
+    let a = c.args in
+    let p = good-table a.m a.scheme a.rows a.cells.now c.requires in
     (omega (arith, p.attributes), omega (arith, p.attributes))
 
 pub line_length-first-requires : goal.line_length-first-requires
 line_length-first-requires c =
-    let st = c in
-    let a = st.args in
-    let p = good-table a.m a.scheme a.rows a.cells.now st.requires in
+    let a = c.args in
+    let p = good-table a.m a.scheme a.rows a.cells.now c.requires in
     let s = ones-some a.m a.scheme p.scheme-some p.scheme-low in
     let o = ones-le a.m a.scheme p.scheme-low in
     rw c.width-w.ensures (s, omega (arith, o, p.attributes), omega (arith, o, p.attributes, c.attributes.auto))
 
 pub rows_length-requires : goal.rows_length-requires
 rows_length-requires c =
-    let st = c in
-    let a = st.args in
-    let p = good-table a.m a.scheme a.rows a.cells.now st.requires in
+    let a = c.args in
+    let p = good-table a.m a.scheme a.rows a.cells.now c.requires in
     let s = ones-some a.m a.scheme p.scheme-some p.scheme-low in
     let o = ones-le a.m a.scheme p.scheme-low in
     rw c.width-w.ensures (s, omega (arith, o, p.attributes), p.rows, p.fits)
 
 pub overflow_add-result : goal.overflow_add-result
 overflow_add-result c =
-    let st = c in
-    let a = st.args in
-    let p = good-table a.m a.scheme a.rows a.cells.now st.requires in
+    let a = c.args in
+    let p = good-table a.m a.scheme a.rows a.cells.now c.requires in
     let s = ones-some a.m a.scheme p.scheme-some p.scheme-low in
     let o = ones-le a.m a.scheme p.scheme-low in
     let z = mul-le-mul_right (21 * ones a.scheme + 2) p.rows in
@@ -50,8 +46,7 @@ overflow_add-result c =
 
 pub returns : goal.returns
 returns c =
-    let st = c in
-    let a = st.args in
-    let p = good-table a.m a.scheme a.rows a.cells.now st.requires in
+    let a = c.args in
+    let p = good-table a.m a.scheme a.rows a.cells.now c.requires in
     rw (c.rows_length.ensures, c.line_length-first.ensures, c.width-w.ensures, head-is a.m a.scheme _ _ p.scheme-low c.attributes.ensures)
     (sym (text-length a.m a.scheme a.rows a.cells.now))

@@ -1,6 +1,5 @@
 -- `importer::filler::fill_row` meets its contract. Invariant: what is left of the line, from the cursor on, makes the whole. Assumes nothing.
 use native.Mathlib.Omega.{arith}
-use Prim.Native.Nat.{◌-◌}
 use mathlib.Core.Path.{sym, ◌∙◌}
 use lib.ListN.{length-set}
 use Rattle.importer.proofs.CollectLaws.{fill_on, fill_end}

@@ -1,5 +1,5 @@
 -- `importer::filler::fill_row` meets its contract. Invariant: what is left of the line, from the cursor on, makes the whole. Assumes nothing.
-use Prim.Native.Nat.{◌+◌, ◌-◌}
+use Prim.Native.Nat.{◌+◌}
 use mathlib.Core.Path.{◌≡◌}
 use lib.ListN.{length}
 use Rattle.laws.specs.Lists.{over}

@@ -20,7 +20,7 @@ open_list-requires c =
     let l = c.load-loaded in
     let e = ap length s.requires.0 ∙ blank-length most_cells in
     let good = found-good l.result c.in-Good.is in
-    (rw e at (load-lawful s.args.input.now s.args.cells.now _ (λ k. omega (arith, c.type_inv.input k)) (sym l.ensures.answer ∙ good)), l.auto.1.0 ∙ e, s.requires.1, s.requires.2, s.requires.3, s.requires.4, s.requires.5)
+    (rw e at (load-lawful s.args.input.now s.args.cells.now _ (λ k. omega (arith, c.type_inv.input k)) (sym l.ensures.answer ∙ good)), l.auto.cells ∙ e, s.requires.1, s.requires.2, s.requires.3, s.requires.4, s.requires.5)
 
 pub returns-in-Good : goal.returns-in-Good
 returns-in-Good c =

@@ -17,22 +17,22 @@ loop-s-init c =
     (record { same = refl; filled = g.filled; ready = g.ready }, omega arith, refl, refl, refl, refl, refl, refl)
 
 pub shape_of-low-then-out-s-lt-MOST_LINE : goal.shape_of-low-then-out-s-lt-MOST_LINE
-shape_of-low-then-out-s-lt-MOST_LINE c = c.loop-s.invariant.2 ∙ c.turn-s.auto.1.1.0
+shape_of-low-then-out-s-lt-MOST_LINE c = c.loop-s.invariant.2 ∙ c.turn-s.auto.low
 
 pub shape_of-high-then-out-s-lt-MOST_LINE : goal.shape_of-high-then-out-s-lt-MOST_LINE
-shape_of-high-then-out-s-lt-MOST_LINE c = c.loop-s.invariant.3 ∙ c.turn-s.auto.1.1.1.0
+shape_of-high-then-out-s-lt-MOST_LINE c = c.loop-s.invariant.3 ∙ c.turn-s.auto.high
 
 pub shape_of-left-then-out-s-lt-MOST_LINE : goal.shape_of-left-then-out-s-lt-MOST_LINE
-shape_of-left-then-out-s-lt-MOST_LINE c = c.loop-s.invariant.4 ∙ c.turn-s.auto.1.1.1.1.0
+shape_of-left-then-out-s-lt-MOST_LINE c = c.loop-s.invariant.4 ∙ c.turn-s.auto.left
 
 pub shape_of-right-then-out-s-lt-MOST_LINE : goal.shape_of-right-then-out-s-lt-MOST_LINE
-shape_of-right-then-out-s-lt-MOST_LINE c = c.loop-s.invariant.5 ∙ c.turn-s.auto.1.1.1.1.1.0
+shape_of-right-then-out-s-lt-MOST_LINE c = c.loop-s.invariant.5 ∙ c.turn-s.auto.right
 
 pub shape_of-padded-then-out-s-lt-MOST_LINE : goal.shape_of-padded-then-out-s-lt-MOST_LINE
-shape_of-padded-then-out-s-lt-MOST_LINE c = c.loop-s.invariant.6 ∙ c.turn-s.auto.1.1.1.1.1.1.0
+shape_of-padded-then-out-s-lt-MOST_LINE c = c.loop-s.invariant.6 ∙ c.turn-s.auto.padded
 
 pub shape_of-out-then-out-s-lt-MOST_LINE : goal.shape_of-out-then-out-s-lt-MOST_LINE
-shape_of-out-then-out-s-lt-MOST_LINE c = c.loop-s.invariant.7 ∙ c.turn-s.auto.1.1.1.1.1.1.1.0
+shape_of-out-then-out-s-lt-MOST_LINE c = c.loop-s.invariant.7 ∙ c.turn-s.auto.out
 
 pub returns-then-out-s-lt-MOST_LINE : goal.returns-then-out-s-lt-MOST_LINE
 returns-then-out-s-lt-MOST_LINE c =
@@ -54,31 +54,31 @@ loop-s-preserved c =
     let t = c.turn-s-in-loop-s in (
       gives-on l.invariant.0 t.ensures.1,
       omega (arith, t.ensures.0, l.invariant.1),
-      t.auto.1.1.0 ∙ l.invariant.2,
-      t.auto.1.1.1.0 ∙ l.invariant.3,
-      t.auto.1.1.1.1.0 ∙ l.invariant.4,
-      t.auto.1.1.1.1.1.0 ∙ l.invariant.5,
-      t.auto.1.1.1.1.1.1.0 ∙ l.invariant.6,
-      t.auto.1.1.1.1.1.1.1.0 ∙ l.invariant.7,
+      t.auto.low ∙ l.invariant.2,
+      t.auto.high ∙ l.invariant.3,
+      t.auto.left ∙ l.invariant.4,
+      t.auto.right ∙ l.invariant.5,
+      t.auto.padded ∙ l.invariant.6,
+      t.auto.out ∙ l.invariant.7,
     )
 
 pub shape_of-low : goal.shape_of-low
-shape_of-low c = c.loop-s.invariant.2 ∙ c.turn-s.auto.1.1.0
+shape_of-low c = c.loop-s.invariant.2 ∙ c.turn-s.auto.low
 
 pub shape_of-high : goal.shape_of-high
-shape_of-high c = c.loop-s.invariant.3 ∙ c.turn-s.auto.1.1.1.0
+shape_of-high c = c.loop-s.invariant.3 ∙ c.turn-s.auto.high
 
 pub shape_of-left : goal.shape_of-left
-shape_of-left c = c.loop-s.invariant.4 ∙ c.turn-s.auto.1.1.1.1.0
+shape_of-left c = c.loop-s.invariant.4 ∙ c.turn-s.auto.left
 
 pub shape_of-right : goal.shape_of-right
-shape_of-right c = c.loop-s.invariant.5 ∙ c.turn-s.auto.1.1.1.1.1.0
+shape_of-right c = c.loop-s.invariant.5 ∙ c.turn-s.auto.right
 
 pub shape_of-padded : goal.shape_of-padded
-shape_of-padded c = c.loop-s.invariant.6 ∙ c.turn-s.auto.1.1.1.1.1.1.0
+shape_of-padded c = c.loop-s.invariant.6 ∙ c.turn-s.auto.padded
 
 pub shape_of-out : goal.shape_of-out
-shape_of-out c = c.loop-s.invariant.7 ∙ c.turn-s.auto.1.1.1.1.1.1.1.0
+shape_of-out c = c.loop-s.invariant.7 ∙ c.turn-s.auto.out
 
 pub returns : goal.returns
 returns c =
