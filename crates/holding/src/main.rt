@@ -2,58 +2,57 @@
 
 // The program `holding TABLE ROW`: reads an image from standard input and prints those of the row sets of its tables that hold one row.
 // Tables are numbered from 0, the rows of a table from 1. Wrong arguments are told on standard error, and nothing is read or printed.
-use libc::STDERR_FILENO;
 use lines::Word;
 use lister::{Got, Scope};
 
 // Lists what is asked for of the input, in cells and a store of its own.
-fn list(scope: Scope, input: &[u8]) {
+fn list(rt: &HostRuntime, scope: Scope, input: &[u8]) {
     let mut cells = [0u64; 8192];
     let mut low = [0u64; 4096];
     let mut high = [0u64; 4096];
     let mut left = [0u16; 4096];
     let mut right = [0u16; 4096];
     lister::print(
-        scope, input, &mut cells, &mut low, &mut high, &mut left, &mut right,
+        rt, scope, input, &mut cells, &mut low, &mut high, &mut left, &mut right,
     );
 }
 
 // Reads standard input and lists the sets that hold a row of it as an image.
-fn list_row(table: u64, row: u64) {
+fn list_row(rt: &HostRuntime, table: u64, row: u64) {
     let mut input = [0u8; 65537];
-    let got = lister::read_input(&mut input);
+    let got = lister::read_input(rt, &mut input);
     match got {
-        Got::Bytes(n) => list(Scope::With(table as usize, row as usize), &input[..n]),
+        Got::Bytes(n) => list(rt, Scope::With(table as usize, row as usize), &input[..n]),
         Got::Failed => {}
     }
 }
 
 // Says on standard error what the arguments are.
-fn usage() {
-    io::write_all(STDERR_FILENO, b"usage: holding TABLE ROW\n");
+fn usage(rt: &HostRuntime) {
+    teller::say(rt, b"usage: holding TABLE ROW\n");
 }
 
 // An argument as a number.
 // One that is missing, or longer than any number in decimal digits need be, comes as no byte at all.
-fn number(i: usize) -> Word {
+fn number(rt: &HostRuntime, i: usize) -> Word {
     let mut word = [0u8; 64];
-    let n = os::arg(i, &mut word);
+    let n = teller::arg(rt, i, &mut word);
     lines::read_decimal(&word[..n])
 }
 
 // Lists the sets that hold the row that the two arguments name.
-fn main() {
-    if os::arg_count() != 3 {
-        usage();
+fn main(rt: HostRuntime) {
+    if teller::arg_count(&rt) != 3 {
+        usage(&rt);
         return;
     }
-    let table = number(1);
-    let row = number(2);
+    let table = number(&rt, 1);
+    let row = number(&rt, 2);
     match table {
         Word::Number(t) => match row {
-            Word::Number(r) => list_row(t, r),
-            Word::Other => usage(),
+            Word::Number(r) => list_row(&rt, t, r),
+            Word::Other => usage(&rt),
         },
-        Word::Other => usage(),
+        Word::Other => usage(&rt),
     }
 }

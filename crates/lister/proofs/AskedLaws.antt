@@ -1,10 +1,10 @@
 -- When there is a list: for every set always, for the sets of a row just where that row is there. Assumes nothing.
-use Prim.Native.Nat.{ℕ, ◌+◌, ◌≤◌, ◌<◌}
+use Prim.Native.Nat.{ℕ, ◌<◌}
 use native.Mathlib.Omega.{arith}
-use mathlib.Core.Path.{◌≡◌, refl, sym, ap, ◌∙◌}
+use mathlib.Core.Path.{◌≡◌, refl, ap, ◌∙◌}
 use mathlib.Core.Bool.{true}
 use mathlib.Core.List.{List, [], ◌∷◌, ◌++◌}
-use lib.ListN.{length, replicate}
+use lib.ListN.{length}
 use Rattle.tables.specs.declared.Catalogue.{Catalogue}
 use Rattle.tables.specs.Sizes.{most_attributes, most_cells}
 use Rattle.tables.specs.Catalogues.{total}
@@ -15,7 +15,7 @@ use Rattle.machine.specs.Machine.{Opened, Askable, stray, open_fault, opening_fo
 use Rattle.machine.proofs.RefusalLaws.{opening-says, open-stray, open_free}
 use Rattle.lines.specs.Lines.{tables_line, refused_line}
 use Rattle.lister.specs.Listing.{most_records, blank, most_calls, lines_of, tables_text}
-use Rattle.lister.proofs.ListingLaws.{blank-length, text-opened, text-refused}
+use Rattle.lister.proofs.ListingLaws.{text-opened, text-refused}
 
 module _ (cat : Catalogue) (cells : List ℕ) (w : Lawful cat most_cells) (l : length cells ≡ most_cells) where
   abbrev first : Asked → Opened

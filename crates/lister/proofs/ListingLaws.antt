@@ -1,11 +1,11 @@
 -- The listing's text, one law for each way that the code goes: a call's line and what follows it, the first line, the lines of refused and of longer
 -- input, and how long a line is at most. Assumes nothing.
-use Prim.Native.Nat.{ℕ, zero, suc, ◌+◌, ◌-◌, ◌*◌, ◌≤◌, ◌<◌}
+use Prim.Native.Nat.{ℕ, zero, suc, ◌+◌, ◌-◌, ◌≤◌, ◌<◌}
 use native.Mathlib.Omega.{arith}
 use native.Mathlib.Numerals.{sub-one}
 use mathlib.Core.Path.{◌≡◌, refl, sym, ap, ◌∙◌}
 use mathlib.Core.List.{List, [], ◌∷◌, ◌++◌, append_assoc, append-nil}
-use lib.ListN.{length, take, replicate, length-replicate}
+use lib.ListN.{length, take, length-replicate}
 use borrow.Author.Tests.{lt-ltb, le-ltb}
 use Rattle.laws.specs.Lists.{Placed}
 use Rattle.laws.proofs.PlacedLaws.{placed-length, placed-front}
@@ -19,7 +19,7 @@ use Rattle.loader.specs.declared.Fault.{Fault}
 use Rattle.loader.specs.declared.Verdict.{Verdict}
 use Rattle.loader.specs.declared.Verdict.TheVariants.{Good, Refused}
 use Rattle.loader.specs.declared.Loaded.{Loaded}
-use Rattle.loader.specs.Load.{first_table, scan_of, tables_codes, cells_after, Loads}
+use Rattle.loader.specs.Load.{scan_of, Loads}
 use Rattle.disjunction.specs.Asked.{Asked}
 use Rattle.machine.specs.Machine.{State, Says, a_set, finished, working, refused, Called, call, Opened, opening_for}
 use Rattle.machine.proofs.CountLaws.{Small, call-small}

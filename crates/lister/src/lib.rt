@@ -8,7 +8,7 @@ ghost use Rattle.lister.specs.Listing.{most_input, most_records, blank};
 ghost use Rattle.lister.specs.Reading.{Read};
 
 use harbour::{Catalogue, OpenAnswer, StepAnswer, StreamRecord};
-use libc::{STDIN_FILENO, STDOUT_FILENO};
+use std::io::Read;
 pub use stream::Scope;
 
 mod text;
@@ -49,26 +49,27 @@ pub enum Got {
 
 // Reads once from standard input into the lent part.
 // A read that fails is told.
-fn read_some(part: &mut [u8]) -> Got
+fn read_some(rt: &HostRuntime, part: &mut [u8]) -> Got
     ensures { Read result (length part.old) }
 {
-    let moved = libc::read(STDIN_FILENO, part);
-    if moved < 0 {
-        os::fail(b"read");
-        return Got::Failed;
+    match rt.stdin().read(part) {
+        Ok(n) => Got::Bytes(n),
+        Err(error) => {
+            teller::fail(rt, b"read", &error);
+            Got::Failed
+        }
     }
-    Got::Bytes(io::count(moved, part))
 }
 
 // Reads standard input to its end, or as much of it as is lent.
 // One byte more is lent than an image may have, so that longer input is told from it.
-pub fn read_input(input: &mut [u8]) -> Got
+pub fn read_input(rt: &HostRuntime, input: &mut [u8]) -> Got
     requires { length input.old ≡ most_input + 1 }
     ensures { Read result (length input.old) }
 {
     let mut got: usize = 0;
     while got < input.len() {
-        let more = read_some(&mut input[got..]);
+        let more = read_some(rt, &mut input[got..]);
         match more {
             Got::Failed => {
                 return Got::Failed;
@@ -86,18 +87,21 @@ pub fn read_input(input: &mut [u8]) -> Got
 
 // Writes the first bytes of the buffer to standard output, and says whether they were taken.
 // A write that fails is told.
-fn written(out: &[u8], filled: usize) -> bool
+fn written(rt: &HostRuntime, out: &[u8], filled: usize) -> bool
     requires { filled ≤ length out.now }
 {
-    let taken = io::write_all(STDOUT_FILENO, &out[..filled]);
-    if !taken {
-        os::fail(b"write");
+    match rt.stdout().write_all(&out[..filled]) {
+        Ok(()) => true,
+        Err(error) => {
+            teller::fail(rt, b"write", &error);
+            false
+        }
     }
-    taken
 }
 
 // Prints the list of what is asked for of the input as an image: writes what is put into the buffer, until nothing is to come or a write fails.
 pub fn print(
+    rt: &HostRuntime,
     scope: Scope,
     input: &[u8],
     cells: &mut [u64],
@@ -112,10 +116,10 @@ pub fn print(
     let mut out = [0u8; 32768];
     let mut p = text::first_lines(scope, input, cells, low, high, left, right, &mut out);
     while 0 < p.calls {
-        if !written(&out, p.filled) {
+        if !written(rt, &out, p.filled) {
             return;
         }
         p = text::more_lines(p, cells, low, high, left, right, &mut padded, &mut out);
     }
-    written(&out, p.filled);
+    written(rt, &out, p.filled);
 }

@@ -5,23 +5,24 @@
 use lister::{Got, Scope};
 
 // Reads standard input and lists it as an image: every set, in a store that starts as zeros.
-fn main() {
+fn main(rt: HostRuntime) {
     let mut input = [0u8; 65537];
-    let got = lister::read_input(&mut input);
+    let got = lister::read_input(&rt, &mut input);
     match got {
-        Got::Bytes(n) => list(&input[..n]),
+        Got::Bytes(n) => list(&rt, &input[..n]),
         Got::Failed => {}
     }
 }
 
 // Lists the input, in cells and a store of its own.
-fn list(input: &[u8]) {
+fn list(rt: &HostRuntime, input: &[u8]) {
     let mut cells = [0u64; 8192];
     let mut low = [0u64; 4096];
     let mut high = [0u64; 4096];
     let mut left = [0u16; 4096];
     let mut right = [0u16; 4096];
     lister::print(
+        rt,
         Scope::Every,
         input,
         &mut cells,

@@ -1,10 +1,13 @@
 #![tactic(auto)]
 
-// What the programs over text say: a refusal on standard error, and the first bytes of a buffer on standard output.
+// What the programs are given and what they say: their arguments and their input, a refusal or a failure on standard error, and the first bytes of a buffer on
+// standard output. What the system gives or takes, no contract can say.
 ghost use Rattle.std.specs.Prelude.{◌≡◌, ◌≤◌, min, length};
-ghost use Rattle.io.specs.Counts.{IsPrefixLen};
+ghost use Rattle.teller.specs.Counts.{IsPrefixLen};
 
-use libc::{STDERR_FILENO, STDOUT_FILENO};
+use std::env::{Env, FillError};
+use std::io;
+use std::io::{Read, Write};
 
 // So many bytes of a buffer, or all that it has.
 // What is written is then just this front, neither less nor more.
@@ -17,22 +20,86 @@ fn front(n: usize, buffer: &[u8]) -> usize
     n
 }
 
+// How many arguments the program was started with, its own name among them.
+pub fn arg_count(rt: &HostRuntime) -> usize {
+    for i in 0..usize::MAX {
+        if let Err(FillError::NotPresent) = rt.arg(i, &mut []) {
+            return i;
+        }
+    }
+    usize::MAX
+}
+
+// Puts an argument into the front of the buffer and gives its length.
+// One that is missing, or longer than the buffer, comes as no byte at all.
+pub fn arg(rt: &HostRuntime, i: usize, buffer: &mut [u8]) -> usize
+    ensures { IsPrefixLen result buffer.new }
+{
+    match rt.arg(i, buffer) {
+        Ok(n) => n,
+        Err(_) => 0,
+    }
+}
+
+// Reads until the buffer is full, the input ends or a read fails, and gives how many bytes came into its front.
+pub fn read_full<R: Read>(from: &mut R, buffer: &mut [u8]) -> usize
+    ensures { IsPrefixLen result buffer.new }
+{
+    let mut n: usize = 0;
+    while n < buffer.len() {
+        match from.read(&mut buffer[n..]) {
+            Ok(0) => return n,
+            Ok(more) => n = n + more,
+            Err(_) => return n,
+        }
+    }
+    n
+}
+
+// Writes to standard error.
+// Where that fails, nothing is left to tell it to.
+pub fn say(rt: &HostRuntime, text: &[u8]) {
+    let _ = rt.stderr().write_all(text);
+}
+
+// The system's words for why a call failed, without the number that std puts behind them.
+// The zeros behind the words of another error are not of them.
+fn reason(text: &str) -> &str {
+    match text.split_once(" (os error ") {
+        Some((words, _)) => words,
+        None => text.trim_end_matches('\0'),
+    }
+}
+
+// Tells a call that failed in one line: what failed, as the caller names it, a colon and why.
+pub fn fail(rt: &HostRuntime, what: &[u8], error: &io::Error) {
+    let mut text = [0u8; 128];
+    let mut room: &mut [u8] = &mut text;
+    let _ = write!(room, "{error}");
+    say(rt, what);
+    say(rt, b": ");
+    if let Ok(all) = std::str::from_utf8(&text) {
+        say(rt, reason(all).as_bytes());
+    }
+    say(rt, b"\n");
+}
+
 // Tells a refusal: its number, and the numbers that say where it was met.
 // It writes, which no contract can say; the line is that of `lines::put_line`.
-pub fn tell(numbers: &[u64])
+pub fn tell(rt: &HostRuntime, numbers: &[u64])
     requires { length numbers.now ≤ 3 }
 {
     let mut line = [0u8; 128];
     let n = lines::put_line(b"refused", numbers, &mut line, 0);
     let filled = front(n, &line);
-    io::write_all(STDERR_FILENO, &line[..filled]);
+    say(rt, &line[..filled]);
 }
 
 // Writes the first bytes of a buffer to standard output, which no contract can say.
 // A write that fails is told.
-pub fn send(out: &[u8], n: usize) {
+pub fn send(rt: &HostRuntime, out: &[u8], n: usize) {
     let filled = front(n, out);
-    if !io::write_all(STDOUT_FILENO, &out[..filled]) {
-        os::fail(b"write");
+    if let Err(error) = rt.stdout().write_all(&out[..filled]) {
+        fail(rt, b"write", &error);
     }
 }

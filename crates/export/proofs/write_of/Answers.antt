@@ -1,6 +1,6 @@
 -- `export::write_of` is safe: the place that a lawful catalogue stores of a table lies among the cells lent. Assumes nothing.
 use native.Mathlib.Omega.{arith}
-use Prim.Native.Nat.{ℕ, ◌-◌, ◌≤◌, ◌<◌}
+use Prim.Native.Nat.{ℕ, ◌≤◌, ◌<◌}
 use mathlib.Core.Path.{◌≡◌, sym, ◌∙◌}
 use Rattle.tables.specs.declared.Catalogue.{Catalogue}
 use Rattle.tables.specs.Sizes.{most_tables, most_cells}
@@ -23,47 +23,53 @@ known cat t f e z h =
 pub offset_bounds-cat-table : goal.offset_bounds-cat-table
 offset_bounds-cat-table c =
     let a = c.args in
-    let k = known a.t1 a.table _ c.fault-fault.ensures (omega (arith, c.if-fault-ne0.false)) (omega (arith, c.if-cat-table.false)) in
+    let k = known a.cat a.table _ c.fault-fault.ensures (omega (arith, c.if-fault-ne0.false)) (omega (arith, c.if-cat-table.false)) in
     omega (arith, k.few)
 
 pub bounds-cat-table : goal.bounds-cat-table
 bounds-cat-table c =
     let a = c.args in
-    let k = known a.t1 a.table _ c.fault-fault.ensures (omega (arith, c.if-fault-ne0.false)) (omega (arith, c.if-cat-table.false)) in
+    let k = known a.cat a.table _ c.fault-fault.ensures (omega (arith, c.if-fault-ne0.false)) (omega (arith, c.if-cat-table.false)) in
     omega (arith, k.few)
 
 pub offset_bounds-cat-table-2 : goal.offset_bounds-cat-table-2
 offset_bounds-cat-table-2 c =
     let a = c.args in
-    let k = known a.t1 a.table _ c.fault-fault.ensures (omega (arith, c.if-fault-ne0.false)) (omega (arith, c.if-cat-table.false)) in
+    let k = known a.cat a.table _ c.fault-fault.ensures (omega (arith, c.if-fault-ne0.false)) (omega (arith, c.if-cat-table.false)) in
     omega (arith, k.few)
 
 pub bounds-cat-table-2 : goal.bounds-cat-table-2
 bounds-cat-table-2 c =
     let a = c.args in
-    let k = known a.t1 a.table _ c.fault-fault.ensures (omega (arith, c.if-fault-ne0.false)) (omega (arith, c.if-cat-table.false)) in
+    let k = known a.cat a.table _ c.fault-fault.ensures (omega (arith, c.if-fault-ne0.false)) (omega (arith, c.if-cat-table.false)) in
     omega (arith, k.few)
 
 pub offset_bounds-cat-table-3 : goal.offset_bounds-cat-table-3
 offset_bounds-cat-table-3 c =
     let a = c.args in
-    let k = known a.t1 a.table _ c.fault-fault.ensures (omega (arith, c.if-fault-ne0.false)) (omega (arith, c.if-cat-table.false)) in
+    let k = known a.cat a.table _ c.fault-fault.ensures (omega (arith, c.if-fault-ne0.false)) (omega (arith, c.if-cat-table.false)) in
     omega (arith, k.few)
 
 pub bounds-cat-table-3 : goal.bounds-cat-table-3
 bounds-cat-table-3 c =
     let a = c.args in
-    let k = known a.t1 a.table _ c.fault-fault.ensures (omega (arith, c.if-fault-ne0.false)) (omega (arith, c.if-cat-table.false)) in
+    let k = known a.cat a.table _ c.fault-fault.ensures (omega (arith, c.if-fault-ne0.false)) (omega (arith, c.if-cat-table.false)) in
     omega (arith, k.few)
 
 pub offset_bounds-cells-start : goal.offset_bounds-cells-start
 offset_bounds-cells-start c =
     let a = c.args in
-    let k = known a.t1 a.table _ c.fault-fault.ensures (omega (arith, c.if-fault-ne0.false)) (omega (arith, c.if-cat-table.false)) in
-    omega (arith, k.inside, c.requires, c.well-formed)
+    let k = known a.cat a.table _ c.fault-fault.ensures (omega (arith, c.if-fault-ne0.false)) (omega (arith, c.if-cat-table.false)) in
+    omega (arith, k.inside, c.requires, c.well_formed)
 
 pub slice_bounds-write_table-count : goal.slice_bounds-write_table-count
 slice_bounds-write_table-count c =
     let a = c.args in
-    let k = known a.t1 a.table _ c.fault-fault.ensures (omega (arith, c.if-fault-ne0.false)) (omega (arith, c.if-cat-table.false)) in
-    omega (arith, k.inside, c.requires, c.well-formed)
+    let k = known a.cat a.table _ c.fault-fault.ensures (omega (arith, c.if-fault-ne0.false)) (omega (arith, c.if-cat-table.false)) in
+    omega (arith, k.inside, c.requires, c.well_formed)
+
+pub slice_bounds-write_table-start : goal.slice_bounds-write_table-start
+slice_bounds-write_table-start c =
+    let a = c.args in
+    let k = known a.cat a.table _ c.fault-fault.ensures (omega (arith, c.if-fault-ne0.false)) (omega (arith, c.if-cat-table.false)) in
+    omega (arith, k.inside, c.requires, c.well_formed)

@@ -1,6 +1,5 @@
 -- `import::import_all` is safe. Invariant: the cells used so far are among those there are, and so are the tables. Assumes nothing.
 use native.Mathlib.Omega.{arith}
-use Prim.Native.Nat.{◌-◌}
 use mathlib.Core.Path.{sym, ◌∙◌}
 use lib.ListN.{length-append, length-take, length-drop}
 use Rattle.tables.specs.Sizes.{most_rows, most_cells}

@@ -1,7 +1,6 @@
 -- `lister::print` is safe and ends. Invariant: what has been written, what the buffer holds and what is still to come are the text that the first lines
 -- began (`Printing`), which is the listing of the input. The measure is how many calls are left. Assumes nothing.
 use native.Mathlib.Omega.{arith}
-use Prim.Native.Nat.{◌-◌}
 use mathlib.Core.Path.{refl, ◌∙◌}
 use mathlib.Core.List.{[]}
 use Rattle.lister.specs.Listing.{blank}

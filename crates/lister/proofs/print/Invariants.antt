@@ -1,6 +1,6 @@
 -- `lister::print` is safe and ends. Invariant: what has been written, what the buffer holds and what is still to come are the text that the first lines
 -- began (`Printing`), which is the listing of the input. The measure is how many calls are left. Assumes nothing.
-use Prim.Native.Nat.{ℕ, ◌-◌}
+use Prim.Native.Nat.{ℕ}
 use mathlib.Core.Path.{◌≡◌}
 use mathlib.Core.List.{List}
 use lib.ListN.{length}

@@ -1,6 +1,5 @@
 -- `lister::text::first_lines` meets its contract: longer input, a refused image and a good one each have their text. Assumes nothing.
 use native.Mathlib.Omega.{arith}
-use Prim.Native.Nat.{◌-◌}
 use mathlib.Core.Path.{sym, ap, ◌∙◌}
 use lib.ListN.{length}
 use Rattle.tables.specs.Sizes.{most_cells}
@@ -32,7 +31,6 @@ pub returns-in-Refused : goal.returns-in-Refused
 returns-in-Refused c =
     let s = c in
     let l = c.load-loaded in
-    let v = c.verdict-1.given in
-    rw (listing-short (asked_of s.args.scope) s.args.input.now (omega (arith, c.if-input-gt-MOST_INPUT.false)), image-refused (asked_of s.args.scope) l.result s.requires.0 l.ensures _ v.1)
+    rw (listing-short (asked_of s.args.scope) s.args.input.now (omega (arith, c.if-input-gt-MOST_INPUT.false)), image-refused (asked_of s.args.scope) l.result s.requires.0 l.ensures _ c.in-Refused.is)
     (ended-gives c.ended-in-Refused.result _ _ _ _ _ _ _ c.ended-in-Refused.ensures.0 c.ended-in-Refused.ensures.1
-    (omega (arith, refused-short v.0.0.refusal v.0.0.place, s.requires.5)) c.Put-refused.ensures)
+    (omega (arith, refused-short c.in-Refused.fault.refusal c.in-Refused.fault.place, s.requires.5)) c.put_refused.ensures)

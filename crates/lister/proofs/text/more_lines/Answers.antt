@@ -1,7 +1,6 @@
 -- `lister::text::more_lines` meets its contract. Invariant: what the buffer holds and what is still to come are the text that they were behind the first
 -- call. The measure is how many calls are left. Assumes nothing.
 use native.Mathlib.Omega.{arith}
-use Prim.Native.Nat.{◌-◌}
 use mathlib.Core.Path.{refl, ◌∙◌}
 use Rattle.lister.proofs.ListingLaws.{ready-filled, gives-on}
 use Rattle.lister.proofs.text.more_lines.Goals as goal

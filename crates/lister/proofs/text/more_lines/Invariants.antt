@@ -1,6 +1,6 @@
 -- `lister::text::more_lines` meets its contract. Invariant: what the buffer holds and what is still to come are the text that they were behind the first
 -- call. The measure is how many calls are left. Assumes nothing.
-use Prim.Native.Nat.{◌-◌, ◌≤◌}
+use Prim.Native.Nat.{◌≤◌}
 use mathlib.Core.Path.{◌≡◌}
 use lib.ListN.{length}
 use Rattle.lister.specs.Listing.{text_from, Gives}

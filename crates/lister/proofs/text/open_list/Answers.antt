@@ -1,7 +1,6 @@
 -- `lister::text::open_list` meets its contract: the first line is put, and every set that is asked for is still to come (`open_gives`), or the refusal's
 -- line is all the text (`refused-gives`). Assumes nothing.
 use native.Mathlib.Omega.{arith}
-use Prim.Native.Nat.{◌-◌}
 use Rattle.lister.proofs.ListingLaws.{open_gives, refused-gives}
 use Rattle.lister.proofs.text.open_list.Goals as goal
 

@@ -1,5 +1,4 @@
 -- `lister::text::put_answer` meets its contract: each answer has its line. Assumes nothing.
-use Prim.Native.Nat.{◌-◌}
 use Rattle.lister.proofs.ListingLaws.{nothing}
 use Rattle.lister.proofs.text.put_answer.Goals as goal
 
@@ -13,4 +12,4 @@ pub returns-in-Working : goal.returns-in-Working
 returns-in-Working c = rw c.in-Working.is (nothing _ _)
 
 pub returns-in-Refused : goal.returns-in-Refused
-returns-in-Refused c = rw c.in-Refused.is c.Put-refused.ensures
+returns-in-Refused c = rw c.in-Refused.is c.put_refused.ensures

@@ -1,5 +1,4 @@
 -- `lister::text::step_for` meets its contract: each stream's call is what harbour's promises. Assumes nothing.
-use Prim.Native.Nat.{◌-◌}
 use Rattle.lister.proofs.text.step_for.Goals as goal
 
 pub returns-in-Every : goal.returns-in-Every

@@ -1,15 +1,17 @@
 -- `lister::text::turn` meets its contract: a call's line is put, and what follows it is still to come (`turn-gives`). Assumes nothing.
 use native.Mathlib.Omega.{arith}
-use Prim.Native.Nat.{◌-◌}
 use mathlib.Core.Path.{◌∙◌}
 use Rattle.lister.proofs.ListingLaws.{said-small, turn-gives}
 use Rattle.lister.proofs.text.turn.Goals as goal
 
 pub overflow_add-counted : goal.overflow_add-counted
-overflow_add-counted c = omega (arith, (said-small _ _ _ _ _ _ c.step_for-called.ensures).tests, c.requires.1.tests, c.requires.1.calls)
+overflow_add-counted c = omega (arith, (said-small _ _ _ _ _ _ c.step_for-called.ensures).trials, c.requires.1.trials, c.requires.1.calls)
 
 pub overflow_add-counted-2 : goal.overflow_add-counted-2
-overflow_add-counted-2 c = omega (arith, (said-small _ _ _ _ _ _ c.step_for-called.ensures).looks, c.requires.1.looks, c.requires.1.calls)
+overflow_add-counted-2 c = omega (arith, (said-small _ _ _ _ _ _ c.step_for-called.ensures).tests, c.requires.1.tests, c.requires.1.calls)
+
+pub overflow_add-counted-3 : goal.overflow_add-counted-3
+overflow_add-counted-3 c = omega (arith, (said-small _ _ _ _ _ _ c.step_for-called.ensures).looks, c.requires.1.looks, c.requires.1.calls)
 
 pub overflow_sub-p : goal.overflow_sub-p
 overflow_sub-p c = c.requires.0
