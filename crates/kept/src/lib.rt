@@ -7,6 +7,7 @@ ghost use Rattle.loader.specs.Load.{Loads};
 ghost use Rattle.writer.specs.Write.{Writes};
 ghost use Rattle.padding.specs.Covering.{Covers};
 ghost use Rattle.stream.specs.Promises.{Opens, Steps, OpensHolding, StepsHolding};
+ghost use Rattle.harbour.specs.Answers.{Nexts, NextsHolding};
 ghost use Rattle.door.specs.Door.{Checks};
 ghost use Rattle.hub.specs.Promises.{ChecksList};
 ghost use Rattle.abi.specs.Lists.{ListCall};
@@ -15,7 +16,7 @@ ghost use Rattle.abi.specs.Streams.{OpenCall, NextCall, OpenHoldingCall, NextHol
 
 use harbour::{
     Catalogue, HoldingOpenAnswer, HoldingRecord, HoldingStepAnswer, ListVerdict, Loaded, Made,
-    OpenAnswer, StepAnswer, StreamRecord, Written,
+    NextAnswer, OpenAnswer, StepAnswer, StreamRecord, Written,
 };
 
 // Calls `harbour::load`.
@@ -53,7 +54,24 @@ pub fn open(
     harbour::open(cat, cells, low, high, left, right)
 }
 
-// Calls `harbour::step`, which calls `harbour::next` and would not be proved without its promise.
+// Calls `harbour::next`.
+pub fn next(
+    cat: Catalogue,
+    cells: &[u64],
+    low: &mut [u64],
+    high: &mut [u64],
+    left: &mut [u16],
+    right: &mut [u16],
+    stream: &mut StreamRecord,
+    budget: usize,
+    padded: &mut [u64],
+) -> NextAnswer
+    ensures { Nexts cat cells.now low.old high.old left.old right.old stream.old budget padded.old result stream.new low.new high.new left.new right.new padded.new }
+{
+    harbour::next(cat, cells, low, high, left, right, stream, budget, padded)
+}
+
+// Calls `harbour::step`.
 pub fn step(
     cat: Catalogue,
     cells: &[u64],
@@ -84,6 +102,23 @@ pub fn open_holding(
     ensures { OpensHolding cat cells.now low.old high.old left.old right.old table row result low.new high.new left.new right.new }
 {
     harbour::open_holding(cat, cells, low, high, left, right, table, row)
+}
+
+// Calls `harbour::next_holding`.
+pub fn next_holding(
+    cat: Catalogue,
+    cells: &[u64],
+    low: &mut [u64],
+    high: &mut [u64],
+    left: &mut [u16],
+    right: &mut [u16],
+    stream: &mut HoldingRecord,
+    budget: usize,
+    padded: &mut [u64],
+) -> NextAnswer
+    ensures { NextsHolding cat cells.now low.old high.old left.old right.old stream.old budget padded.old result stream.new low.new high.new left.new right.new padded.new }
+{
+    harbour::next_holding(cat, cells, low, high, left, right, stream, budget, padded)
 }
 
 // Calls `harbour::step_holding`.
