@@ -13,6 +13,8 @@ import re
 CAMEL = re.compile(r"(?<![\w'·])[a-z][a-z0-9_]*[A-Z][A-Za-z0-9_]*")
 # Names of the kit, which keep their spelling.
 KIT = {"mut_Tells", "mut_slice_Tells", "shr_slice_Tells", "uint_Makes", "uint_Tells", "walk_Meets"}
+# What looks like a name of ours in comments and pages, and is none.
+NO_NAMES = {"libFuzzer", "kB", "x2C", "x2D", "x0D", "x0A"}
 # Names that would fall together with another of ours, or with a tactic.
 BY_HAND = {"bytesAfter": "bytes_after_write", "getD": "get_or", "firstOf": "first_met"}
 # Lemmas that would have the name of the word that they are about, and one field beside the word that it is about: crate, old, new.
@@ -33,7 +35,7 @@ BESIDE = [
 
 
 def snake(name):
-    if name in KIT:
+    if name in KIT | NO_NAMES:
         return name
     return BY_HAND.get(name) or re.sub(r"(?<=[a-z0-9])(?=[A-Z])", "_", name).lower()
 

@@ -306,7 +306,7 @@ fn judge_none(cat: Catalogue, cells: &[u64], layout: Layout) -> ListVerdict
 }
 
 // The verdict on a list, behind the catalogue's refusals: the entries first, then what their trials reach.
-// The links of the tree lie here, in 262 k_b of stack; there is no heap.
+// The links of the tree lie here, in 262 kB of stack; there is no heap.
 fn judge(cat: Catalogue, cells: &[u64], low: &[u64], high: &[u64]) -> ListVerdict
     requires { Lawful cat (length cells.now) }
     ensures { result ≡ answer_of (verdict (world_of cat cells.now) (word_sets cat (listed_keys low.now high.now))) }

@@ -10,7 +10,7 @@ use Rattle.text.specs.declared.Act.TheVariants.{Takes, Marks, NextField, NextLin
 
 -- ---- bytes
 
--- "DQUOTE = %x22", "COMMA = %x2_c", "CR = %x0_d", "LF = %x0_a"; and the digit 0.
+-- "DQUOTE = %x22", "COMMA = %x2C", "CR = %x0D", "LF = %x0A"; and the digit 0.
 abbrev pub quote : ℕ
 quote = 0x22
 
@@ -26,7 +26,7 @@ lf = 0x0A
 abbrev pub digit_zero : ℕ
 digit_zero = 0x30
 
--- "TEXTDATA = %x20-21 / %x23-2B / %x2_d-7E"
+-- "TEXTDATA = %x20-21 / %x23-2B / %x2D-7E"
 unfoldable pub kind_of : ℕ → Kind
 kind_of b =
     cond (eqb b quote) QuoteByte
