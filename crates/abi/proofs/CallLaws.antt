@@ -9,11 +9,11 @@ use borrow.Author.Tests.{ltb-false}
 use Rattle.laws.specs.Lists.{put, part}
 use Rattle.laws.proofs.TestLaws.{or-none}
 use Rattle.tables.specs.declared.Catalogue.{Catalogue}
-use Rattle.tables.specs.declared.Made.{Made}
+use Rattle.tables.specs.Checks.{Made}
 use Rattle.tables.specs.Sizes.{most_tables}
 use Rattle.tables.specs.Checks.{Makes}
-use Rattle.loader.specs.declared.Loaded.{Loaded}
-use Rattle.writer.specs.declared.Written.{Written}
+use Rattle.writer.specs.Written.{Written}
+use Rattle.loader.specs.Faults.{Loaded}
 use Rattle.loader.specs.Load.{first_table, tables_codes, cells_after, Loads}
 use Rattle.writer.specs.Write.{Writes}
 use Rattle.verdicts.specs.Number.{door_number, looked_in}

@@ -1,5 +1,5 @@
 -- What each call of a stream promises, one law for each way that its code goes; and why no number that is answered wraps. Assumes nothing.
-use Prim.Native.Nat.{ℕ, zero, suc, ◌+◌, ◌*◌, ◌≤◌, ◌<◌}
+use Prim.Native.Nat.{ℕ, zero, suc, ◌*◌, ◌≤◌, ◌<◌}
 use native.Mathlib.Omega.{arith}
 use mathlib.Core.Path.{◌≡◌, refl, sym, ap, subst, ◌∙◌}
 use mathlib.Core.Bool.{Bool, true, false}
@@ -14,8 +14,7 @@ use Rattle.tables.specs.declared.Catalogue.{Catalogue}
 use Rattle.disjunction.specs.Asked.{Asked}
 use Rattle.store.specs.Store.{store_in}
 use Rattle.machine.specs.Machine.{most_tests, Called, Opened, open_fault, opening_for}
-use Rattle.stream.specs.declared.OpenAnswer.{OpenAnswer}
-use Rattle.stream.specs.declared.StepAnswer.{StepAnswer}
+use Rattle.stream.specs.Answers.{OpenAnswer, StepAnswer}
 use Rattle.stream.specs.Promises.{state_with, says_of, called_with, opened_with}
 use Rattle.machine.proofs.RefusalLaws.{opening-refused, opening-says}
 use Rattle.machine.proofs.CountLaws.{open-few}

@@ -2,12 +2,11 @@
 -- needs, the answer is 31 and nothing changes. Assumes nothing.
 use Rattle.std.specs.Prelude.{ℕ, ◌*◌, ◌≡◌, Bool, cond, ◌||◌, List, length, get_or, set, ltb}
 use Rattle.laws.specs.Lists.{put, part}
-use Rattle.tables.specs.declared.Made.{Made}
+use Rattle.tables.specs.Checks.{Made}
 use Rattle.tables.specs.Sizes.{most_tables, most_cells}
 use Rattle.tables.specs.Catalogues.{given}
 use Rattle.tables.specs.Checks.{shape_fault, made_if}
-use Rattle.writer.specs.declared.Written.{Written}
-use Rattle.writer.specs.declared.Written.TheVariants.{Length, Refused}
+use Rattle.writer.specs.Written.{Written, Length, Refused}
 use Rattle.loader.specs.Load.{first_table, scan_of, tables_codes, cells_after}
 use Rattle.writer.specs.Write.{image_of, written, bytes_after_write}
 use Rattle.padding.specs.Covering.{covering}

@@ -2,8 +2,7 @@
 -- than the call needs, the answer is 31 and nothing changes. Assumes nothing.
 use Rattle.std.specs.Prelude.{ℕ, ◌≡◌, Bool, cond, ◌||◌, List, [], ◌∷◌, length, ltb}
 use Rattle.laws.specs.Lists.{put}
-use Rattle.hub.specs.declared.ListVerdict.{ListVerdict}
-use Rattle.hub.specs.declared.ListVerdict.TheVariants.{Right, Entry, Missing, Refused}
+use Rattle.hub.specs.Answers.{ListVerdict, Right, Entry, Missing, Refused}
 use Rattle.hub.specs.Promises.{listed_keys, checked}
 use Rattle.abi.specs.Words.{catalogue_in}
 use Rattle.abi.specs.Calls.{too_few_words, short}

@@ -38,6 +38,11 @@ abbrev pub words_of_asked : Asked → List ℕ
 words_of_asked every_set = []
 words_of_asked (every_with s) = s.table ∷ (s.row ∷ [])
 
+-- How many words the record of such a stream has.
+abbrev pub words_for : Asked → ℕ
+words_for every_set = record_words
+words_for (every_with s) = holding_words
+
 -- The words of the record of a state of the machine.
 abbrev pub words_of_state : State → List ℕ
 words_of_state q = q.store.found ∷ (q.taken ∷ (q.next ∷ words_of_asked q.asked))

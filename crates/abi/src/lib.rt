@@ -8,7 +8,6 @@ ghost use Rattle.abi.specs.Words.{schemes_at, catalogue_words, words_of, short_i
 ghost use Rattle.abi.specs.Calls.{make_short, LoadCall, MakeCall, WriteCall};
 
 use tables::Catalogue;
-use writer::Written;
 
 pub mod lists;
 pub mod streams;
@@ -16,8 +15,10 @@ pub mod streams;
 // The words of a catalogue: m, n, and eight each of schemes, row counts, places and masks.
 const CATALOGUE_WORDS: usize = 34;
 
-// How many of them say what the tables are, and where each eight of 16 bits begin.
+// How many of them say what the tables are, and where each eight begin.
 const TABLE_WORDS: usize = 18;
+
+const SCHEMES_AT: usize = 2;
 
 const COUNTS_AT: usize = 10;
 
@@ -38,7 +39,7 @@ fn word_of(cat: Catalogue, i: usize) -> u64
         return cat.n as u64;
     }
     if i < COUNTS_AT {
-        return cat.schemes[i - 2];
+        return cat.schemes[i - SCHEMES_AT];
     }
     if i < PLACES_AT {
         return cat.rows[i - COUNTS_AT] as u64;
@@ -55,10 +56,8 @@ fn put_catalogue(cat: Catalogue, words: &mut [u64])
     requires { catalogue_words ≤ length words.old }
     ensures { words.new ≡ put (words_of cat) words.old }
 {
-    let mut i: usize = 0;
-    while i < CATALOGUE_WORDS {
+    for i in 0..CATALOGUE_WORDS {
         words[i] = word_of(cat, i);
-        i = i + 1;
     }
 }
 
@@ -68,11 +67,7 @@ fn short_in(words: &[u64], i: usize) -> u16
     requires { i < length words.now }
     ensures { result ≡ short_in words.now i }
 {
-    let word = words[i];
-    if 65535 < word {
-        return 65535;
-    }
-    word as u16
+    words[i].min(u64::from(u16::MAX)) as u16
 }
 
 // Eight words from a place on as numbers of 16 bits: row counts, places or masks.
@@ -80,11 +75,9 @@ fn shorts_in(words: &[u64], from: usize) -> [u16; 8]
     requires { from + most_tables ≤ length words.now }
     ensures { result ≡ shorts_in words.now from }
 {
-    let mut shorts = [0u16; 8];
-    let mut t: usize = 0;
-    while t < 8 {
+    let mut shorts = [0; 8];
+    for t in 0..8 {
         shorts[t] = short_in(words, from + t);
-        t = t + 1;
     }
     shorts
 }
@@ -94,12 +87,8 @@ fn schemes_in(words: &[u64]) -> [u64; 8]
     requires { schemes_at + most_tables ≤ length words.now }
     ensures { result ≡ part schemes_at most_tables words.now }
 {
-    let mut schemes = [0u64; 8];
-    let mut t: usize = 0;
-    while t < 8 {
-        schemes[t] = words[2 + t];
-        t = t + 1;
-    }
+    let mut schemes = [0; 8];
+    schemes.copy_from_slice(&words[SCHEMES_AT..COUNTS_AT]);
     schemes
 }
 
@@ -164,13 +153,10 @@ pub fn harbour_load(
     if too_few(catalogue.len()) {
         return 31;
     }
-    let r = loader::load(image, cells);
-    let verdict = r.verdict;
-    let cat = r.catalogue;
-    put_catalogue(cat, catalogue);
-    let count = verdicts::looked_of(verdict);
-    put_count(count, looked);
-    verdicts::number_of(verdict)
+    let loaded = loader::load(image, cells);
+    put_catalogue(loaded.unwrap_or(tables::no_tables()), catalogue);
+    put_count(verdicts::looked_of(&loaded), looked);
+    verdicts::number_of(&loaded)
 }
 
 // Makes the catalogue of tables made by hand, whose m, n, schemes and row counts are the front of the lent words.
@@ -183,10 +169,16 @@ pub fn harbour_make_catalogue(given: &[u64], catalogue: &mut [u64]) -> u64
     }
     let schemes = schemes_in(given);
     let rows = shorts_in(given, COUNTS_AT);
-    let m = tables::make_catalogue(given[0] as usize, given[1] as usize, schemes, rows);
-    let cat = m.catalogue;
-    put_catalogue(cat, catalogue);
-    m.refusal as u64
+    match tables::make_catalogue(given[0] as usize, given[1] as usize, schemes, rows) {
+        Ok(cat) => {
+            put_catalogue(cat, catalogue);
+            0
+        }
+        Err(refusal) => {
+            put_catalogue(tables::no_tables(), catalogue);
+            u64::from(refusal)
+        }
+    }
 }
 
 // Writes the image of tables into the lent bytes.
@@ -199,7 +191,7 @@ pub fn harbour_write(catalogue: &[u64], cells: &[u64], out: &mut [u8]) -> u64
     }
     let cat = catalogue_in(catalogue);
     match writer::write(cat, cells, out) {
-        Written::Length(n) => (n as u64) * 32,
-        Written::Refused(k) => k as u64,
+        Ok(n) => (n as u64) * 32,
+        Err(refusal) => u64::from(refusal),
     }
 }

@@ -1,46 +1,24 @@
 // The check of a list of keys for C and Rust: the list is two slices of words, and the place or the key that an answer names comes into two lent words.
 ghost use Rattle.std.specs.Prelude.{◌≡◌};
-ghost use Rattle.abi.specs.Lists.{verdict_number, first_named, second_named, list_short, ListCall};
+ghost use Rattle.hub.specs.Answers.{told_of};
+ghost use Rattle.abi.specs.Lists.{verdict_number, named_words, list_short, ListCall};
 
 use hub::ListVerdict;
+use refusals::Refusal;
 
 // The words of what an answer names.
 const VERDICT_WORDS: usize = 2;
 
 // An answer as a number: a refusal's own, else 32 for a right list, 64 for an entry, 96 for a set that is missing.
-// No refusal's number is as high as 32.
-fn number_of(verdict: ListVerdict) -> u64
-    ensures { result ≡ verdict_number verdict }
+// And the words of what it names: the place of an entry, or the two of a missing set's key, and 0 otherwise. No refusal's number is as high as 32.
+fn told(answer: Result<ListVerdict, Refusal>) -> (u64, [u64; VERDICT_WORDS])
+    ensures { (result.0 ≡ verdict_number (told_of answer)) × (result.1 ≡ named_words (told_of answer)) }
 {
-    match verdict {
-        ListVerdict::Right => 32,
-        ListVerdict::Entry(_) => 64,
-        ListVerdict::Missing(_) => 96,
-        ListVerdict::Refused(k) => k as u64,
-    }
-}
-
-// The first word of what an answer names: the place of an entry, the first word of a missing set's key, and 0 otherwise.
-fn first_named(verdict: ListVerdict) -> u64
-    ensures { result ≡ first_named verdict }
-{
-    match verdict {
-        ListVerdict::Right => 0,
-        ListVerdict::Entry(i) => i as u64,
-        ListVerdict::Missing(key) => key.low,
-        ListVerdict::Refused(_) => 0,
-    }
-}
-
-// The second word: that of a missing set's key, and 0 otherwise.
-fn second_named(verdict: ListVerdict) -> u64
-    ensures { result ≡ second_named verdict }
-{
-    match verdict {
-        ListVerdict::Right => 0,
-        ListVerdict::Entry(_) => 0,
-        ListVerdict::Missing(key) => key.high,
-        ListVerdict::Refused(_) => 0,
+    match answer {
+        Err(refusal) => (u64::from(refusal), [0, 0]),
+        Ok(ListVerdict::Right) => (32, [0, 0]),
+        Ok(ListVerdict::Entry(i)) => (64, [i as u64, 0]),
+        Ok(ListVerdict::Missing(key)) => (96, [key.low, key.high]),
     }
 }
 
@@ -49,10 +27,7 @@ fn second_named(verdict: ListVerdict) -> u64
 fn list_short(catalogue: &[u64], res: &[u64]) -> bool
     ensures { result ≡ list_short catalogue.now res.now }
 {
-    if crate::too_few(catalogue.len()) {
-        return true;
-    }
-    res.len() < VERDICT_WORDS
+    crate::too_few(catalogue.len()) || res.len() < VERDICT_WORDS
 }
 
 // Checks a list of keys: whether it holds every maximal set once and nothing else.
@@ -70,8 +45,8 @@ pub fn harbour_check_list(
         return 31;
     }
     let cat = crate::catalogue_in(catalogue);
-    let verdict = hub::check_list(cat, cells, listed_low, listed_high);
-    res[0] = first_named(verdict);
-    res[1] = second_named(verdict);
-    number_of(verdict)
+    let answer = hub::check_list(cat, cells, listed_low, listed_high);
+    let (number, named) = told(answer);
+    res[..VERDICT_WORDS].copy_from_slice(&named);
+    number
 }

@@ -1,13 +1,17 @@
 // The stream's calls for C and Rust: the store in four slices, a record as 3 words (5 where it names a row), a result as 5, its key first.
-ghost use Rattle.std.specs.Prelude.{◌≡◌, ◌≤◌, length};
+ghost use Rattle.std.specs.Prelude.{◌≡◌, ◌≤◌, ◌++◌, false, length};
 ghost use Rattle.laws.specs.Lists.{put};
 ghost use Rattle.keys.specs.TwoWords.{low_of, high_of, number_of};
-ghost use Rattle.stream.specs.Promises.{says_of};
+ghost use Rattle.machine.specs.Machine.{opening_for, blank, call};
+ghost use Rattle.stream.specs.Answers.{zeros, answer_in, key_in};
+ghost use Rattle.stream.specs.Promises.{asked_of, state_with, says_of};
+ghost use Rattle.abi.specs.Words.{catalogue_words, catalogue_in};
 ghost use Rattle.abi.specs.Calls.{CoversCall};
-ghost use Rattle.abi.specs.Streams.{record_words, holding_words, result_words, words_of_record, words_of_holding, record_in, holding_in, result_of, answer_number, open_short, next_short, OpenCall, NextCall, OpenHoldingCall, NextHoldingCall};
+ghost use Rattle.abi.specs.Streams.{record_words, result_words, words_for, words_of_record, words_of_asked, record_in, result_of, answer_number, open_short, next_short, Opening, Calling, OpenCall, NextCall, OpenHoldingCall, NextHoldingCall};
 
 use keys::Key;
-use stream::{Answer, HoldingRecord, StreamRecord};
+use stream::{Answer, Counts, Opened, Scope, StreamRecord};
+use tables::Row;
 
 // The words of a stream record, and of one that names a row.
 const RECORD_WORDS: usize = 3;
@@ -30,66 +34,71 @@ fn record_in(words: &[u64]) -> StreamRecord
     }
 }
 
-// Copies a stream record into the front of the lent words.
-// What lies behind the 3 words stays.
-fn put_record(stream: StreamRecord, words: &mut [u64])
-    requires { record_words ≤ length words.old }
-    ensures { words.new ≡ put (words_of_record stream) words.old }
+// Copies a stream record into the front of the lent words, with the row that it names where it names one.
+// What lies behind them stays.
+fn put_record(stream: StreamRecord, scope: Scope, words: &mut [u64])
+    requires { words_for (asked_of scope) ≤ length words.old }
+    ensures { words.new ≡ put (words_of_record stream ++ words_of_asked (asked_of scope)) words.old }
 {
     words[0] = stream.found as u64;
     words[1] = stream.taken as u64;
     words[2] = stream.next_row as u64;
-}
-
-// The record that names a row, which the front of the lent words holds.
-// Nothing is judged here: the call refuses a record that does not fit.
-fn holding_in(words: &[u64]) -> HoldingRecord
-    requires { holding_words ≤ length words.now }
-    ensures { result ≡ holding_in words.now }
-{
-    let stream = record_in(words);
-    HoldingRecord {
-        stream,
-        table: words[3] as usize,
-        row: words[4] as usize,
+    if let Scope::With(x) = scope {
+        words[3] = x.table as u64;
+        words[4] = x.row as u64;
     }
 }
 
-// Copies a record that names a row into the front of the lent words.
-// What lies behind the 5 words stays.
-fn put_holding(holding: HoldingRecord, words: &mut [u64])
-    requires { holding_words ≤ length words.old }
-    ensures { words.new ≡ put (words_of_holding holding) words.old }
+// Copies a record of zeros, which a refused open gives: where it names a row, that is row 0 of table 0.
+fn put_zeros(scope: Scope, words: &mut [u64])
+    requires { words_for (asked_of scope) ≤ length words.old }
+    ensures { words.new ≡ put (words_of_record zeros ++ words_of_asked (blank (asked_of scope))) words.old }
 {
-    let stream = holding.stream;
-    put_record(stream, words);
-    words[3] = holding.table as u64;
-    words[4] = holding.row as u64;
+    let nowhere = match scope {
+        Scope::Every => Scope::Every,
+        Scope::With(_) => Scope::With(Row { table: 0, row: 0 }),
+    };
+    let stream = StreamRecord {
+        found: 0,
+        taken: 0,
+        next_row: 0,
+    };
+    put_record(stream, nowhere, words);
 }
 
-// Copies the key and the counts of an answer into the front of the lent words.
-// What lies behind the 5 words stays.
-fn put_result(key: Key, trials: usize, tests: usize, looks: usize, words: &mut [u64])
-    requires { result_words ≤ length words.old }
-    ensures { words.new ≡ put (result_of (low_of (number_of key)) (high_of (number_of key)) trials tests looks) words.old }
+// The key of a set, or else that of no row.
+fn key_of(answer: Answer) -> Key
+    ensures { number_of result ≡ number_of (key_in answer) }
 {
-    words[0] = keys::low_word(key);
-    words[1] = keys::high_word(key);
-    words[2] = trials as u64;
-    words[3] = tests as u64;
-    words[4] = looks as u64;
+    match answer {
+        Answer::Set(key) => key,
+        Answer::Finished | Answer::Working | Answer::Refused(_) => Key::none(),
+    }
+}
+
+// Copies a key and the counts of an answer into the front of the lent words.
+// What lies behind the 5 words stays.
+fn put_result(key: Key, counts: Counts, words: &mut [u64])
+    requires { result_words ≤ length words.old }
+    ensures { words.new ≡ put (result_of (low_of (number_of key)) (high_of (number_of key)) counts.trials counts.tests counts.looks) words.old }
+{
+    words[0] = key.low;
+    words[1] = key.high;
+    words[2] = counts.trials as u64;
+    words[3] = counts.tests as u64;
+    words[4] = counts.looks as u64;
 }
 
 // An answer as a number: a refusal's own, else 32 for a set, 64 for the end, 96 for a spent budget.
 // No refusal's number is as high as 32.
 fn number_of(answer: Answer) -> u64
-    ensures { result ≡ answer_number (says_of answer) }
+    ensures { result ≡ answer_number (says_of (answer_in answer)) }
 {
     match answer {
-        Answer::Set => 32,
+        Answer::Set(_) => 32,
         Answer::Finished => 64,
         Answer::Working => 96,
-        Answer::Refused(k) => k as u64,
+        Answer::Refused(refusal) => u64::from(refusal),
     }
 }
 
@@ -98,10 +107,7 @@ fn number_of(answer: Answer) -> u64
 fn open_short(catalogue: &[u64], words: &[u64], needed: usize) -> bool
     ensures { result ≡ open_short needed catalogue.now words.now }
 {
-    if crate::too_few(catalogue.len()) {
-        return true;
-    }
-    words.len() < needed
+    crate::too_few(catalogue.len()) || words.len() < needed
 }
 
 // Whether the lent words are too few for a call of a stream whose record has so many.
@@ -109,10 +115,64 @@ fn open_short(catalogue: &[u64], words: &[u64], needed: usize) -> bool
 fn next_short(catalogue: &[u64], words: &[u64], res: &[u64], needed: usize) -> bool
     ensures { result ≡ next_short needed catalogue.now words.now res.now }
 {
-    if open_short(catalogue, words, needed) {
-        return true;
+    open_short(catalogue, words, needed) || res.len() < RESULT_WORDS
+}
+
+// Opens a stream of what is asked for, and copies its record into the lent words: a record of zeros where it is refused.
+// The answer is row tests x 32, or the refusal.
+fn open_for(
+    catalogue: &[u64],
+    cells: &[u64],
+    low: &mut [u64],
+    high: &mut [u64],
+    left: &mut [u16],
+    right: &mut [u16],
+    scope: Scope,
+    words: &mut [u64],
+) -> u64
+    requires { (catalogue_words ≤ length catalogue.now) × (words_for (asked_of scope) ≤ length words.old) }
+    ensures { Opening false (opening_for (catalogue_in catalogue.now) cells.now (asked_of scope) low.old high.old left.old right.old) low.old high.old left.old right.old words.old result low.new high.new left.new right.new words.new }
+{
+    let cat = crate::catalogue_in(catalogue);
+    match stream::open_for(cat, cells, low, high, left, right, scope) {
+        Ok(Opened { stream, tests }) => {
+            put_record(stream, scope, words);
+            (tests as u64) * 32
+        }
+        Err(refusal) => {
+            put_zeros(scope, words);
+            u64::from(refusal)
+        }
     }
-    res.len() < RESULT_WORDS
+}
+
+// One call of a stream of what is asked for, whose record is moved on in the lent words.
+// The answer is its number.
+fn next_for(
+    catalogue: &[u64],
+    cells: &[u64],
+    low: &mut [u64],
+    high: &mut [u64],
+    left: &mut [u16],
+    right: &mut [u16],
+    words: &mut [u64],
+    scope: Scope,
+    budget: u64,
+    padded: &mut [u64],
+    res: &mut [u64],
+) -> u64
+    requires { (catalogue_words ≤ length catalogue.now) × (words_for (asked_of scope) ≤ length words.old) × (result_words ≤ length res.old) }
+    ensures { Calling false (call (catalogue_in catalogue.now) cells.now budget (state_with (asked_of scope) (record_in words.old) low.old high.old left.old right.old) padded.old) low.old high.old left.old right.old words.old padded.old res.old result low.new high.new left.new right.new words.new padded.new res.new }
+{
+    let cat = crate::catalogue_in(catalogue);
+    let before = record_in(words);
+    let budget = budget as usize;
+    let stepped = stream::step_for(
+        cat, cells, low, high, left, right, before, scope, budget, padded,
+    );
+    put_record(stepped.stream, scope, words);
+    put_result(key_of(stepped.answer), stepped.counts, res);
+    number_of(stepped.answer)
 }
 
 // Opens a stream on the tables, and copies its record into the lent words.
@@ -131,11 +191,8 @@ pub fn harbour_open(
     if open_short(catalogue, words, RECORD_WORDS) {
         return 31;
     }
-    let cat = crate::catalogue_in(catalogue);
-    let r = stream::open(cat, cells, low, high, left, right);
-    let opened = r.stream;
-    put_record(opened, words);
-    (r.tests as u64) * 32 + (r.refusal as u64)
+    let scope = Scope::Every;
+    open_for(catalogue, cells, low, high, left, right, scope, words)
 }
 
 // One call of an open stream with a budget of trials; its record is moved on in the lent words.
@@ -157,24 +214,10 @@ pub fn harbour_next(
     if next_short(catalogue, words, res, RECORD_WORDS) {
         return 31;
     }
-    let cat = crate::catalogue_in(catalogue);
-    let before = record_in(words);
-    let r = stream::step(
-        cat,
-        cells,
-        low,
-        high,
-        left,
-        right,
-        before,
-        budget as usize,
-        padded,
-    );
-    let after = r.stream;
-    let answer = r.answer;
-    put_record(after, words);
-    put_result(r.key, r.trials, r.tests, r.looks, res);
-    number_of(answer)
+    let scope = Scope::Every;
+    next_for(
+        catalogue, cells, low, high, left, right, words, scope, budget, padded, res,
+    )
 }
 
 // Opens a stream of the sets that hold one row of a table, and copies its record into the lent words.
@@ -195,20 +238,11 @@ pub fn harbour_open_holding(
     if open_short(catalogue, words, HOLDING_WORDS) {
         return 31;
     }
-    let cat = crate::catalogue_in(catalogue);
-    let r = stream::open_holding(
-        cat,
-        cells,
-        low,
-        high,
-        left,
-        right,
-        table as usize,
-        row as usize,
-    );
-    let opened = r.stream;
-    put_holding(opened, words);
-    (r.tests as u64) * 32 + (r.refusal as u64)
+    let scope = Scope::With(Row {
+        table: table as usize,
+        row: row as usize,
+    });
+    open_for(catalogue, cells, low, high, left, right, scope, words)
 }
 
 // One call of a stream of the sets that hold one row; its record is moved on in the lent words.
@@ -230,24 +264,13 @@ pub fn harbour_next_holding(
     if next_short(catalogue, words, res, HOLDING_WORDS) {
         return 31;
     }
-    let cat = crate::catalogue_in(catalogue);
-    let before = holding_in(words);
-    let r = stream::step_holding(
-        cat,
-        cells,
-        low,
-        high,
-        left,
-        right,
-        before,
-        budget as usize,
-        padded,
-    );
-    let after = r.stream;
-    let answer = r.answer;
-    put_holding(after, words);
-    put_result(r.key, r.trials, r.tests, r.looks, res);
-    number_of(answer)
+    let scope = Scope::With(Row {
+        table: words[3] as usize,
+        row: words[4] as usize,
+    });
+    next_for(
+        catalogue, cells, low, high, left, right, words, scope, budget, padded, res,
+    )
 }
 
 // Whether one padded row covers another: 1 for yes, 0 for no.
@@ -255,8 +278,5 @@ pub fn harbour_next_holding(
 pub fn harbour_covers(first: &[u64], second: &[u64]) -> u64
     ensures { CoversCall first.now second.now result }
 {
-    if padding::covers(first, second) {
-        return 1;
-    }
-    0
+    u64::from(padding::covers(first, second))
 }

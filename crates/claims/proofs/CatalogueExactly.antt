@@ -12,7 +12,7 @@ use lib.Dec.{ltb, leb, eqb}
 use Rattle.laws.specs.Tests.{any}
 use Rattle.laws.proofs.TestLaws.{clash, any_some, any_of}
 use Rattle.tables.specs.declared.Catalogue.{Catalogue}
-use Rattle.tables.specs.declared.Made.{Made}
+use Rattle.tables.specs.Checks.{Made}
 use mathlib.Core.List.{List}
 use Rattle.tables.specs.Sizes.{most_attributes, most_tables, most_rows, most_cells}
 use Rattle.tables.specs.Catalogues.{scheme_of, count_of, first_cell, touching_of, filled, given, no_tables, place_in, mask_in}

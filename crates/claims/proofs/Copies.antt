@@ -15,9 +15,7 @@ use Rattle.rows.specs.World.{world_of, set_of}
 use Rattle.rows.specs.Named.{named}
 use Rattle.store.specs.Store as Store
 use Rattle.store.specs.Store.{room_in, search_of, added, answer_of, store_after}
-use Rattle.store.specs.declared.Looked.{Looked}
-use Rattle.store.specs.declared.Looked.TheVariants.{Found, Absent, Damaged}
-use Rattle.store.specs.declared.Placed.TheVariants.{Added, Full}
+use Rattle.store.specs.Looks.{Looked, Found, Absent, Damaged, Added, Full}
 use Rattle.store.proofs.StoreLaws.{absent-place, room-added, copy_key, copy-search, copy-added}
 use Rattle.machine.specs.Machine.{State, key_at, Trial, done, full, damaged, raised, placed, offered, offered_if, deepest, trial_due, trial_on}
 use Rattle.claims.specs.Demands.{Copy}

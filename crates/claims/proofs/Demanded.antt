@@ -1,10 +1,10 @@
 -- Demands 2 and 3 hold of the stream of document 01 and of that of one row, wherever open gave no refusal. Each is read from the sound stream that open gave. Assumes nothing.
-use Prim.Native.Nat.{ℕ, ◌+◌, ◌-◌, ◌*◌, ◌≤◌, ◌<◌}
+use Prim.Native.Nat.{ℕ, ◌+◌, ◌*◌, ◌≤◌, ◌<◌}
 use native.Mathlib.Omega.{arith}
 use native.Mathlib.Nat.{mul_comm, zero-mul}
 use native.Mathlib.Decide.{ℕ_discrete}
 use mathlib.Core.Path.{◌≡◌, refl, sym, ap, subst, ◌∙◌}
-use mathlib.Core.Logic.{◌⊎◌, inl, inr, ⊎_elim, ◌↔◌}
+use mathlib.Core.Logic.{◌⊎◌, inl, inr, ⊎_elim}
 use mathlib.Core.List.{List, [], ◌∷◌, ◌++◌, Memᴰ}
 use lib.ListN.{length, drop}
 use lib.Seq.{take_at, drop_at}
@@ -14,7 +14,7 @@ use Rattle.keys.specs.Keys.{bits_per_row, key_of}
 use Rattle.tables.specs.declared.Catalogue.{Catalogue}
 use Rattle.tables.specs.Catalogues.{total}
 use Rattle.tables.specs.Checks.{Lawful}
-use Rattle.disjunction.specs.Sets.{MoreOf, Tables, at, Maximal}
+use Rattle.disjunction.specs.Sets.{MoreOf, Tables, Maximal}
 use Rattle.disjunction.specs.Asked.{Asked, Sought}
 use Rattle.disjunction.specs.Cells.{padded, Embedding, tables}
 use Rattle.disjunction.specs.Keeping.{list_moves, tests_in}

@@ -11,18 +11,12 @@ use Rattle.disjunction.specs.Rule.{Place}
 use Rattle.disjunction.specs.Asked.{Asked, every_set, every_with}
 use Rattle.machine.specs.Machine.{State, Called, Opened}
 use Rattle.stream.specs.declared.StreamRecord.{StreamRecord}
-use Rattle.stream.specs.declared.Answer.{Answer}
-use Rattle.stream.specs.declared.Answer.TheVariants.{Set, Finished, Working, Refused}
-use Rattle.stream.specs.declared.OpenAnswer.{OpenAnswer}
-use Rattle.stream.specs.declared.StepAnswer.{StepAnswer}
-use Rattle.stream.specs.declared.HoldingOpenAnswer.{HoldingOpenAnswer}
-use Rattle.stream.specs.declared.HoldingStepAnswer.{HoldingStepAnswer}
+use Rattle.stream.specs.Answers.{Answer, Set, Finished, Working, Refused, OpenAnswer, StepAnswer, HoldingOpenAnswer, HoldingStepAnswer}
 use Rattle.stream.specs.declared.HoldingRecord.{HoldingRecord}
 use Rattle.stream.specs.Promises.{held_by, state_with, says_of, called_with, called_of, called_holding, opened_with, opened_holding}
-use Rattle.harbour.specs.declared.NextAnswer.{NextAnswer}
-use Rattle.harbour.specs.Answers.{with_record, with_holding}
-use Rattle.loader.specs.declared.Loaded.{Loaded}
-use Rattle.writer.specs.declared.Written.{Written}
+use Rattle.harbour.specs.Answers.{NextAnswer, with_record, with_holding}
+use Rattle.writer.specs.Written.{Written}
+use Rattle.loader.specs.Faults.{Loaded}
 use Rattle.loader.specs.Load.{first_table, tables_codes, cells_after, Loads}
 use Rattle.writer.specs.Write.{image_of, bytes_after_write, Writes}
 use Rattle.tables.specs.declared.Catalogue.{Catalogue}

@@ -22,7 +22,7 @@ use Rattle.rows.specs.Named.{missing, beyond, named}
 use Rattle.store.specs.Store as Store
 use Rattle.store.specs.Store.{link_of, search_of, filed, added, answer_of, store_after}
 use Rattle.loader.specs.Reading.{run_end, codes, rows_from}
-use Rattle.loader.specs.declared.Loaded.{Loaded}
+use Rattle.loader.specs.Faults.{Loaded}
 use Rattle.image.specs.RoundTrip.{found}
 use Rattle.loader.specs.Load.{first_table, cells_after, field_at, count_at, table_at, tables_end, tables_from, scan_of, tables_codes}
 use Rattle.image.proofs.Edges.{number-edges, image-edges, version-edges, null-edges}

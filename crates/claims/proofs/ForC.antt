@@ -14,28 +14,23 @@ use Rattle.laws.specs.Lists.{put}
 use Rattle.laws.proofs.TestLaws.{clash}
 use Rattle.tables.specs.declared.Catalogue.{Catalogue}
 use Rattle.disjunction.specs.Asked.{Asked, every_set, every_with}
-use Rattle.loader.specs.declared.Fault.{Fault}
-use Rattle.loader.specs.declared.Verdict.{Verdict}
-use Rattle.loader.specs.declared.Verdict.TheVariants.{Good, Refused}
-use Rattle.loader.specs.declared.Loaded.{Loaded}
-use Rattle.writer.specs.declared.Written.{Written}
-use Rattle.writer.specs.declared.Written.TheVariants as Written
+use Rattle.writer.specs.Written.{Written}
+use Rattle.loader.specs.Faults.{Fault, Verdict, Good, Refused}
 use Rattle.tables.specs.Catalogues.{no_tables}
-use Rattle.loader.specs.Load.{first_table, farthest, NearVerdict, scan_of, tables_codes, cells_after, Loads}
+use Rattle.loader.specs.Load.{first_table, farthest, NearVerdict, scan_of, tables_codes, cells_after}
 use Rattle.writer.specs.Write.{image_of, written, bytes_after_write}
 use Rattle.loader.proofs.PlaceLaws.{scan-near}
 use Rattle.verdicts.specs.Number.{door_number, looked_in}
-use Rattle.machine.specs.Machine.{State, state_for, Says, a_set, finished, working, refused, Called, answer, call_fault, call, Opened, zeros, opening_for}
+use Rattle.machine.specs.Machine.{State, state_for, Says, a_set, finished, working, refused, Called, call_fault, call, Opened, opening_for}
 use Rattle.machine.proofs.RefusalLaws.{call-refused}
-use Rattle.stream.specs.Promises.{state_of, holding_state_of}
 use Rattle.abi.specs.Words.{catalogue_words, table_words, words_of, catalogue_in}
 use Rattle.abi.specs.Calls.{too_few_words, short, LoadCall, make_short, made_in, MakeCall, written_number, WriteCall}
 use Rattle.abi.specs.Lists.{verdict_number, named_words, verdict_words, list_short, ListCall}
-use Rattle.hub.specs.declared.ListVerdict.{ListVerdict}
-use Rattle.hub.specs.declared.ListVerdict.TheVariants as Hub
+use Rattle.hub.specs.Answers.{ListVerdict}
+use Rattle.hub.specs.Answers as Hub
 use Rattle.keys.specs.TwoWords.{first_word, second_word}
 use Rattle.hub.specs.Promises.{listed_keys, checked}
-use Rattle.abi.specs.Streams.{record_words, holding_words, result_words, words_of_state, record_in, holding_in, result_of_call, answer_number, opened_number, open_short, next_short, Opening, Calling}
+use Rattle.abi.specs.Streams.{record_words, holding_words, result_words, words_of_state, result_of_call, answer_number, opened_number, open_short, next_short, Opening, Calling}
 use Rattle.claims.specs.CatalogueRefusals.{OfCatalogue}
 use Rattle.claims.specs.CallsForC.{Reads, ReadsList, OpenTold, CallTold, FewToOpen, FewToCall, AbiExact}
 use Rattle.claims.proofs.ScanLaws.{lt_iff, or-iff, iff-no}

@@ -23,7 +23,7 @@ use Rattle.claims.specs.CallsInRow.{InRow}
 use Rattle.claims.specs.Images.{Streamed, FromOpen, LoadedDemands, RoundTrips, Carries}
 use Rattle.claims.proofs.VersionExactly.{carries-two, carries-one}
 use Rattle.claims.proofs.Opens.{opens-iff}
-use Rattle.claims.proofs.InARow.{Ran, in-row-ran}
+use Rattle.claims.proofs.InARow.{in-row-ran}
 use Rattle.claims.proofs.Demanded.{demands}
 
 module _ (cat : Catalogue) (cells : List ℕ) (a : Asked) where

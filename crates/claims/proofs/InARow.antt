@@ -2,7 +2,7 @@
 -- Assumes nothing.
 use Prim.Native.Nat.{ℕ}
 use mathlib.Core.Path.{◌≡◌, refl, ap, ap₂, ◌∙◌}
-use mathlib.Core.List.{List, [], ◌∷◌}
+use mathlib.Core.List.{List, ◌∷◌}
 use Rattle.tables.specs.declared.Catalogue.{Catalogue}
 use Rattle.machine.specs.Machine.{State, Called, call}
 use Rattle.machine.specs.Runs.{Given, run_of, ended_of}

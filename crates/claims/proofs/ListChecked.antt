@@ -1,6 +1,6 @@
 -- The check of the hub's list: its answers exactly when. Behind a lawful catalogue they are the verdicts on the listed words, which crate hub says of
 -- the words themselves; the promise cites that very definition. Assumes nothing.
-use Prim.Native.Nat.{ℕ, ◌<◌}
+use Prim.Native.Nat.{ℕ}
 use native.Mathlib.Omega.{arith}
 use native.Mathlib.Decide.{ℕ_discrete}
 use mathlib.Core.Path.{◌≡◌, refl, sym, ap, subst, ◌∙◌}
@@ -8,7 +8,6 @@ use mathlib.Core.Logic.{◌⊎◌, inl, inr, ◌↔◌}
 use mathlib.Core.List.Memᴰ
 use mathlib.Core.List.{List, [], ◌∷◌}
 use lib.ListN.{length}
-use Rattle.laws.specs.Tests.{First}
 use Rattle.laws.specs.Distinct.{none}
 use Rattle.tables.specs.declared.Catalogue.{Catalogue}
 use Rattle.tables.specs.Catalogues.{total}
@@ -20,8 +19,7 @@ use Rattle.rows.specs.World.{world_of}
 use Rattle.rows.proofs.WorldLaws.{rows-total}
 use Rattle.keys.specs.Keys.{bits_per_row, key_of}
 use Rattle.keys.specs.TwoWords.{key_with}
-use Rattle.hub.specs.declared.ListVerdict.{ListVerdict}
-use Rattle.hub.specs.declared.ListVerdict.TheVariants.{Right, Entry, Missing, Refused}
+use Rattle.hub.specs.Answers.{ListVerdict, Right, Entry, Missing, Refused}
 use Rattle.hub.specs.Verdicts.{Verdict, right, entry, missing, verdict}
 use Rattle.hub.specs.Promises.{listed_keys, word_sets, answer_of, checked, ChecksList, SoundKeys, RightKeys, FirstOutKey}
 use Rattle.hub.proofs.KeyVerdicts.{keys-right, keys-entry, keys-missing, missing-key, never-refused}

@@ -18,8 +18,7 @@ use Rattle.disjunction.specs.Standing.{same_set, valid, gives_back, standing}
 use Rattle.rows.specs.World.{touches_in, fits_in}
 use Rattle.rows.specs.Named.{missing, beyond, named}
 use Rattle.keys.specs.TwoWords.{joined, first_word, second_word, number_in, key_with}
-use Rattle.hub.specs.declared.ListVerdict.{ListVerdict}
-use Rattle.hub.specs.declared.ListVerdict.TheVariants.{Right, Entry, Missing}
+use Rattle.hub.specs.Answers.{ListVerdict, Right, Entry, Missing}
 use Rattle.hub.specs.Verdicts.{listed, seek, spoilt, tried, tried_on, reached, verdict}
 use Rattle.hub.specs.Promises.{word_set, checked}
 

@@ -27,9 +27,7 @@ use Rattle.rows.specs.Named.{Named}
 use Rattle.rows.proofs.WorldLaws.{world-symmetric, rows-total}
 use Rattle.rows.proofs.NamedLaws.{named-iff, valid-set, valid-named}
 use Rattle.store.specs.Store.{room_in, search_of, filed, added, answer_of, store_after}
-use Rattle.store.specs.declared.Looked.{Looked}
-use Rattle.store.specs.declared.Looked.TheVariants.{Found, Absent, Damaged}
-use Rattle.store.specs.declared.Placed.TheVariants.{Added, Full}
+use Rattle.store.specs.Looks.{Looked, Found, Absent, Damaged, Added, Full}
 use Rattle.store.proofs.LookLaws.{Inside}
 use Rattle.store.proofs.StoreLaws as Laws
 use Rattle.store.proofs.StoreLaws.{GoodStore, Stored, Offered, search-inside, room-added, added-cells}

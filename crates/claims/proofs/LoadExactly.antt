@@ -5,19 +5,16 @@ use native.Mathlib.Decide.{dec_lt, ℕ_discrete}
 use native.Mathlib.Omega.{arith}
 use mathlib.Core.Path.{◌≡◌, refl, ap, ap₂, subst}
 use mathlib.Core.Logic.{◌⊎◌, inl, inr}
-use mathlib.Core.Bool.{Bool, true, false, ◌||◌}
+use mathlib.Core.Bool.{Bool, true, false}
 use mathlib.Core.List.{List}
 use lib.ListN.{length}
 use lib.Count.{ones}
-use Rattle.numbers.specs.declared.Reading.{Reading}
-use Rattle.numbers.specs.declared.Reading.TheVariants.{Number, NumberFault}
+use Rattle.numbers.specs.Readings.{Reading, Number, NumberFault}
 use Rattle.numbers.specs.Numbers.{decode}
 use Rattle.tables.specs.Sizes.{most_attributes, most_tables, most_cells, version_one, version_two}
 use Rattle.tables.specs.Versions.{most_rows_in}
 use Rattle.tables.specs.Rows.{below, all_null}
-use Rattle.loader.specs.declared.Fault.{Fault}
-use Rattle.loader.specs.declared.Verdict.{Verdict}
-use Rattle.loader.specs.declared.Verdict.TheVariants.{Good, Refused}
+use Rattle.loader.specs.Faults.{Fault, Verdict, Good, Refused}
 use Rattle.loader.specs.Reading.{refusal_at, codes}
 use Rattle.loader.specs.Load.{scan_of}
 use Rattle.verdicts.specs.Number.{door_number}

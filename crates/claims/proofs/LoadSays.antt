@@ -15,7 +15,7 @@ use lib.Dec.{ltb, eqb}
 use lib.Pow.{pow_pos}
 use borrow.Author.Tests.{lt-ltb, le-ltb, eq-eqb, ne_eqb}
 use Rattle.laws.specs.Tests.{any}
-use Rattle.numbers.specs.declared.Reading.TheVariants.{Number, NumberFault}
+use Rattle.numbers.specs.Readings.{Number, NumberFault}
 use Rattle.numbers.specs.Numbers.{decode}
 use Rattle.tables.specs.Sizes.{most_attributes, most_tables, most_rows_one, most_cells, version_one, version_two}
 use Rattle.tables.specs.Versions.{some_long, most_rows_in, needless, blank}
@@ -23,16 +23,7 @@ use Rattle.tables.proofs.VersionLaws.{blank-other, blank-two}
 use Rattle.tables.specs.Rows as order
 use Rattle.tables.specs.Checks.{outside, count_fault}
 use Rattle.tables.proofs.CheckLaws.{inside, below, above, scheme-zero, scheme-high, scheme-good, count-many, count_most, count-lent, count-good}
-use Rattle.loader.specs.declared.Fault.{Fault}
-use Rattle.loader.specs.declared.Walk.{Walk}
-use Rattle.loader.specs.declared.Walk.TheVariants.{To, WalkFault}
-use Rattle.loader.specs.declared.Field.{Field}
-use Rattle.loader.specs.declared.Field.TheVariants.{Value, FieldFault}
-use Rattle.loader.specs.declared.Entry.{Entry}
-use Rattle.loader.specs.declared.Entry.TheVariants.{Table, TableFault}
-use Rattle.loader.specs.declared.Verdict.{Verdict}
-use Rattle.loader.specs.declared.Verdict.TheVariants.{Good, Refused}
-use Rattle.loader.specs.declared.Loaded.{Loaded}
+use Rattle.loader.specs.Faults.{Fault, Walk, To, WalkFault, Field, Value, FieldFault, Entry, Table, TableFault, Verdict, Good, Refused, Loaded}
 use Rattle.loader.specs.Reading.{refusal_at, on_walk, run_end, codes, rows_from}
 use Rattle.tables.specs.Catalogues.{filled, given}
 use Rattle.loader.specs.Load.{refused, field_at, on_field, entry_of, count_at, table_at, on_entry, tables_end, tables_from, scan_of}

@@ -1,6 +1,6 @@
 -- After 12, in a longer store: two streams with the same records in stores of one size show the same (`run-twin`), and a longer store follows a shorter
 -- one step by step (`run-pace`). Both by induction over the ways of a call. Assumes nothing.
-use Prim.Native.Nat.{ℕ, zero, suc, ◌+◌, ◌-◌, ◌≤◌, ◌<◌}
+use Prim.Native.Nat.{ℕ, zero, suc, ◌+◌, ◌≤◌, ◌<◌}
 use native.Mathlib.Omega.{arith}
 use native.Mathlib.Nat.{eq-zero-or-pos}
 use mathlib.Core.Path.{◌≡◌, refl, sym, ap, ap₂, subst, ◌∙◌}

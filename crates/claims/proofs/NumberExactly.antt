@@ -11,8 +11,7 @@ use mathlib.Core.List.{List}
 use lib.ListN.{length, get_or}
 use lib.Dec.{ltb, eqb}
 use borrow.Author.Tests.{ne_eqb}
-use Rattle.numbers.specs.declared.Reading.{Reading}
-use Rattle.numbers.specs.declared.Reading.TheVariants.{Number, NumberFault}
+use Rattle.numbers.specs.Readings.{Reading, Number, NumberFault}
 use Rattle.numbers.specs.Numbers.{most_bytes, decode_in, decode}
 use Rattle.numbers.proofs.DecodeLaws.{decode-none, decode-end, decode-zero, decode-last, decode-more, no_number, pos128}
 use Rattle.claims.specs.LoadRefusals.{GoesOn, EndsInside, NotShortest, TooLong, NumberExact}

@@ -8,14 +8,7 @@ use lib.Dec.{ltb}
 use Rattle.tables.specs.declared.Catalogue.{Catalogue}
 use Rattle.tables.specs.Sizes.{most_attributes, most_tables, version_one, version_two}
 use Rattle.tables.specs.Versions.{needless}
-use Rattle.loader.specs.declared.Fault.{Fault}
-use Rattle.loader.specs.declared.Field.{Field}
-use Rattle.loader.specs.declared.Field.TheVariants.{Value, FieldFault}
-use Rattle.loader.specs.declared.Entry.{Entry}
-use Rattle.loader.specs.declared.Entry.TheVariants.{Table, TableFault}
-use Rattle.loader.specs.declared.Verdict.{Verdict}
-use Rattle.loader.specs.declared.Verdict.TheVariants.{Good, Refused}
-use Rattle.loader.specs.declared.Loaded.{Loaded}
+use Rattle.loader.specs.Faults.{Fault, Field, Value, FieldFault, Entry, Table, TableFault, Verdict, Good, Refused, Loaded}
 use Rattle.loader.specs.Reading.{refusal_at}
 use Rattle.tables.specs.Catalogues.{filled, given, no_tables}
 use Rattle.loader.specs.Load.{first_table, refused, field_at, on_field, table_at, on_entry, tables_end, tables_from, scan_of, tables_codes, cells_after}

@@ -1,6 +1,6 @@
 -- What holds of every list of calls on a sound stream: the keys handed out are those of the records taken, so that demand 2 is read from the state;
 -- trials, row tests and looks are summed; and a drain ends, since every call goes on by a step. Assumes nothing.
-use Prim.Native.Nat.{ℕ, ◌+◌, ◌-◌, ◌*◌, ◌≤◌, ◌<◌}
+use Prim.Native.Nat.{ℕ, ◌+◌, ◌*◌, ◌≤◌, ◌<◌}
 use native.Mathlib.Omega.{arith}
 use native.Mathlib.Nat.{add-mul, zero-mul, mul-le-mul_right}
 use mathlib.Core.Path.{◌≡◌, refl, sym, ap, subst, ◌∙◌}

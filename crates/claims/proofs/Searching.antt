@@ -1,14 +1,14 @@
 -- What a trial meets, as the propositions of specs/CallRefusals say it: a search ends at an empty link, or meets one of its two kinds of damage, exactly
 -- where the store's search says so; and a trial is full, or damaged, exactly where 12's, or 14's, condition holds. What carries the proof: one induction
 -- over the looks of a search, and back one over those that were made. Assumes nothing.
-use Prim.Native.Nat.{ℕ, ◌+◌, ◌-◌, ◌≤◌, ◌<◌}
+use Prim.Native.Nat.{ℕ, ◌+◌, ◌-◌, ◌≤◌}
 use native.Mathlib.Omega.{arith}
-use mathlib.Core.Path.{◌≡◌, refl, sym, ap, subst, ◌∙◌}
+use mathlib.Core.Path.{◌≡◌, refl, ap, subst, ◌∙◌}
 use mathlib.Core.Bool.{Bool, true, false, cond}
 use mathlib.Core.Logic.{◌⊎◌, inl, inr, ⊎_elim, ◌↔◌}
 use mathlib.Core.List.{List}
 use lib.Dec.{eqb, ltb}
-use borrow.Author.Tests.{eqb-true, eqb-false, eq-eqb, ne_eqb, ltb-true, ltb-false, le-ltb}
+use borrow.Author.Tests.{eqb-true, eqb-false, eq-eqb, ne_eqb, ltb-false, le-ltb}
 use Rattle.laws.proofs.TestLaws.{which, clash}
 use Rattle.words.specs.Words.{bit_of}
 use Rattle.tables.specs.declared.Catalogue.{Catalogue}
@@ -18,10 +18,8 @@ use Rattle.disjunction.specs.Sets.{at}
 use Rattle.disjunction.specs.Asked.{Asked, every_set, every_with, wanted}
 use Rattle.store.specs.Store as stores
 use Rattle.store.specs.Store.{Store, room_in, link_of, walk_in, search_of, answer_of, store_after}
-use Rattle.store.specs.declared.Looked.{Looked}
-use Rattle.store.specs.declared.Looked.TheVariants.{Found, Absent, Damaged}
-use Rattle.store.specs.declared.Placed.TheVariants.{Added, Full}
-use Rattle.store.proofs.LookLaws.{walk-hit, walk-last, walk-absent, walk-past, walk-on, by-looks}
+use Rattle.store.specs.Looks.{Looked, Found, Absent, Damaged, Added, Full}
+use Rattle.store.proofs.LookLaws.{walk-last, walk-absent, walk-past, walk-on, by-looks}
 use Rattle.machine.specs.Machine.{State, key_at, deepest, Trial, done, full, damaged, placed, offered, offered_if, trial_due, trial_on}
 use Rattle.claims.specs.CallRefusals.{Other, link_due, LooksAt, start, follow, EndsEmpty, LinkPasses, LooksTooOften, HoldsAsked, Searches, key_sought, NoneFree, Damage, not_named, link-passes, looks-too-often}
 

@@ -1,40 +1,31 @@
 -- Entries from n on are never read: on two catalogues that agree below n every definition gives the same, from the place of a cell to a call and a write.
 -- One law for each definition, in their order; the rule's are those of proofs/Alike. Assumes nothing.
-use Prim.Native.Nat.{ℕ, zero, suc, ◌+◌, ◌-◌, ◌*◌, ◌%◌, ◌^◌, ◌≤◌, ◌<◌}
+use Prim.Native.Nat.{ℕ, zero, suc, ◌+◌, ◌-◌, ◌≤◌, ◌<◌}
 use native.Mathlib.Omega.{arith}
-use native.Mathlib.Decide.{ℕ_discrete, dec_lt}
-use mathlib.Core.Path.{◌≡◌, refl, sym, ap, ap₂, subst, ◌∙◌}
-use mathlib.Core.Logic.{◌⊎◌, inl, inr, ⊎_elim}
-use mathlib.Core.Bool.{Bool, true, false, not, cond, ◌&&◌, ◌||◌}
+use mathlib.Core.Path.{◌≡◌, refl, sym, ap, ap₂, ◌∙◌}
+use mathlib.Core.Bool.{Bool, true, false, cond}
 use mathlib.Core.List.{List, [], ◌∷◌, ◌++◌}
 use lib.ListN.{length, get_or, take, replicate}
-use lib.Count.{ones}
-use lib.Dec.{ltb, eqb}
+use lib.Dec.{ltb}
 use borrow.Author.Tests.{ltb-true}
-use Rattle.laws.specs.Tests.{any, all}
-use Rattle.laws.specs.Lists.{put, part, tab}
 use Rattle.laws.proofs.TabLaws.{tab-ext}
-use Rattle.laws.proofs.TestLaws.{which}
-use Rattle.words.specs.Words.{bit_of}
 use Rattle.keys.specs.Keys.{bits_per_row, row_of, key_of}
-use Rattle.numbers.specs.Numbers.{encode}
 use Rattle.tables.specs.declared.Catalogue.{Catalogue}
 use Rattle.tables.specs.Sizes.{most_tables}
-use Rattle.tables.specs.Catalogues.{scheme_of, count_of, first_cell, touch, touching_below, row_start, code_of, rows_before, total}
-use Rattle.tables.specs.Checks.{first_met, size_fault, table_fault, tables_fault, shape_fault, misstored, stored_fault, catalogue_fault, Lawful}
-use Rattle.tables.proofs.CheckLaws.{fault-lawful}
+use Rattle.tables.specs.Catalogues.{count_of, first_cell, touch, touching_below, row_start, code_of, rows_before, total}
+use Rattle.tables.specs.Checks.{tables_fault, shape_fault, misstored, stored_fault, catalogue_fault}
 use Rattle.tables.proofs.VersionLaws.{version-same}
-use Rattle.disjunction.specs.Sets.{Tables, at}
-use Rattle.disjunction.specs.Rule.{Place, add_row, row_at, member, Grown, extension, alone, trial}
-use Rattle.disjunction.specs.Asked.{Asked, every_set, every_with, wanted, first_for}
-use Rattle.disjunction.specs.Cells.{Cells, same, sharing, matching, gives, code_below, padded}
+use Rattle.disjunction.specs.Sets.{at}
+use Rattle.disjunction.specs.Rule.{Place, add_row, row_at, Grown, extension, alone, trial}
+use Rattle.disjunction.specs.Asked.{Asked, every_set, every_with, wanted}
+use Rattle.disjunction.specs.Cells.{sharing, matching, gives, code_below, padded}
 use Rattle.rows.specs.World.{cells_in, world_of, touches_in, fits_in, set_of}
 use Rattle.rows.specs.Named.{missing, beyond, named, rows_there}
-use Rattle.store.specs.Store.{Store, store_in, room_in}
+use Rattle.store.specs.Store.{Store, store_in}
 use Rattle.image.specs.RoundTrip.{front}
 use Rattle.image.proofs.RoundTrip.{found-good, load-trimmed}
-use Rattle.writer.specs.Write.{encodes, tables_image, image_of, rows_fault, cells_fault, write_fault, length_fault, written}
-use Rattle.machine.specs.Machine.{State, key_at, key_due, Trial, done, full, deepest, offered_if, damaged, trial_due, trial_on, Called, finished, working, refused, answer, after_trial, stray, unfit, call_fault, unless_met, padded_in, hand_out, due_or, work, call, Opened, open_fault, first_grown, begun, opening_for}
+use Rattle.writer.specs.Write.{tables_image, image_of, cells_fault, write_fault, length_fault, written}
+use Rattle.machine.specs.Machine.{State, key_at, key_due, Trial, done, full, deepest, offered_if, damaged, trial_due, trial_on, Called, working, answer, after_trial, stray, unfit, call_fault, unless_met, hand_out, due_or, work, call, open_fault, first_grown, begun, opening_for}
 use Rattle.machine.proofs.RefusalLaws.{call-clear}
 use Rattle.claims.specs.Ignored.{entered, Agree, Ignored}
 use Rattle.claims.proofs.Alike.{any-ext, row_at-alike, extension-alike, trial-alike, row_at-table}

@@ -13,8 +13,7 @@ use borrow.Author.Tests.{eqb-true, eqb-false}
 use Rattle.tables.specs.declared.Catalogue.{Catalogue}
 use Rattle.tables.specs.Checks.{first_met, catalogue_fault, Lawful}
 use Rattle.tables.proofs.CheckLaws.{first-none, first-clear, fault-lawful, lawful-fault}
-use Rattle.writer.specs.declared.Written.{Written}
-use Rattle.writer.specs.declared.Written.TheVariants.{Length, Refused}
+use Rattle.writer.specs.Written.{Written, Length, Refused}
 use Rattle.writer.specs.Write.{image_of, rows_refusal, cells_fault, write_fault, length_fault, written_of, written}
 use Rattle.claims.specs.CatalogueRefusals.{OfCatalogue}
 use Rattle.claims.specs.WriteRefusals.{GoodRows, WritesTo, WritesAll, WriteExact}

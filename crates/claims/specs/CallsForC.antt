@@ -3,19 +3,18 @@
 use Rattle.std.specs.Prelude.{ℕ, ◌/◌, ◌%◌, ◌≤◌, ◌<◌, ◌≡◌, ◌⊎◌, ◌↔◌, List, [], ◌∷◌, length, set}
 use Rattle.laws.specs.Lists.{put}
 use Rattle.disjunction.specs.Asked.{Asked, every_set, every_with}
-use Rattle.loader.specs.declared.Fault.{Fault}
-use Rattle.loader.specs.declared.Verdict.TheVariants.{Good, Refused}
-use Rattle.writer.specs.declared.Written.TheVariants as Written
+use Rattle.writer.specs.Written as Written
+use Rattle.loader.specs.Faults.{Fault, Good, Refused}
 use Rattle.tables.specs.Catalogues.{no_tables}
 use Rattle.loader.specs.Load.{scan_of}
 use Rattle.writer.specs.Write.{written}
-use Rattle.machine.specs.Machine.{State, Says, a_set, finished, working, refused, Called, call_fault, call, Opened, zeros, opening_for}
+use Rattle.machine.specs.Machine.{Says, a_set, finished, working, refused, Called, call_fault, call, Opened, zeros, opening_for}
 use Rattle.stream.specs.Promises.{state_of, holding_state_of}
 use Rattle.abi.specs.Words.{catalogue_words, table_words, words_of, catalogue_in}
 use Rattle.abi.specs.Calls.{too_few_words, LoadCall, made_in, MakeCall, WriteCall}
 use Rattle.abi.specs.Lists.{named_words, verdict_words, ListCall}
-use Rattle.hub.specs.declared.ListVerdict.{ListVerdict}
-use Rattle.hub.specs.declared.ListVerdict.TheVariants as Hub
+use Rattle.hub.specs.Answers.{ListVerdict}
+use Rattle.hub.specs.Answers as Hub
 use Rattle.hub.specs.Promises.{listed_keys, checked}
 use Rattle.abi.specs.Streams.{record_words, holding_words, result_words, words_of_state, record_in, holding_in, OpenCall, NextCall, OpenHoldingCall, NextHoldingCall}
 

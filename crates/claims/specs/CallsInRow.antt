@@ -5,12 +5,10 @@ use Rattle.tables.specs.declared.Catalogue.{Catalogue}
 use Rattle.machine.specs.Machine.{State, Called}
 use Rattle.machine.specs.Runs.{Given}
 use Rattle.stream.specs.declared.StreamRecord.{StreamRecord}
-use Rattle.stream.specs.declared.StepAnswer.{StepAnswer}
+use Rattle.stream.specs.Answers.{StepAnswer, HoldingStepAnswer}
 use Rattle.stream.specs.declared.HoldingRecord.{HoldingRecord}
-use Rattle.stream.specs.declared.HoldingStepAnswer.{HoldingStepAnswer}
 use Rattle.stream.specs.Promises.{state_of, holding_state_of, called_of, called_holding, Steps, StepsHolding}
-use Rattle.harbour.specs.declared.NextAnswer.{NextAnswer}
-use Rattle.harbour.specs.Answers.{with_record, with_holding, Nexts, NextsHolding}
+use Rattle.harbour.specs.Answers.{NextAnswer, with_record, with_holding, Nexts, NextsHolding}
 
 module _ (cat : Catalogue) (cells : List ℕ) where
   -- Calls from state q that were given gs and answered l, and left state p. Each meets the promise of `step` or of the thin call `next`, of either stream.

@@ -2,7 +2,7 @@
 -- does'. Whatever a catalogue is lent to begins with them. Proved in proofs/CatalogueExactly. Assumes nothing.
 use Rattle.std.specs.Prelude.{ℕ, ◌+◌, ◌^◌, ◌≤◌, ◌<◌, ◌≡◌, ◌⊎◌, ◌↔◌, List}
 use Rattle.tables.specs.declared.Catalogue.{Catalogue}
-use Rattle.tables.specs.declared.Made.{Made}
+use Rattle.tables.specs.Checks.{Made}
 use Rattle.tables.specs.Sizes.{most_attributes, most_tables, most_rows, most_cells}
 use Rattle.tables.specs.Catalogues.{scheme_of, count_of, first_cell, touching_of, filled, given, no_tables, place_in, mask_in}
 use Rattle.tables.specs.Checks.{catalogue_fault, Lawful}

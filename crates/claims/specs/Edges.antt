@@ -7,7 +7,7 @@ use Rattle.tables.specs.Catalogues.{filled, given}
 use Rattle.tables.specs.Sample.{sample_bytes, three, three_cells}
 use Rattle.tables.specs.Sizes.{most_cells}
 use Rattle.rows.specs.World.{fits_in}
-use Rattle.loader.specs.declared.Loaded.{Loaded}
+use Rattle.loader.specs.Faults.{Loaded}
 use Rattle.loader.specs.Load.{first_table, scan_of, tables_codes, Loads}
 use Rattle.image.specs.RoundTrip.{found}
 use Rattle.image.specs.Edges.{NumberEdges, ImageEdges, VersionEdges, NullEdges}

@@ -3,8 +3,7 @@
 use Rattle.std.specs.Prelude.{ℕ, ◌<◌, ◌≡◌, List, get_or}
 use Rattle.tables.specs.declared.Catalogue.{Catalogue}
 use Rattle.tables.specs.Catalogues.{scheme_of, count_of, place_in, mask_in}
-use Rattle.loader.specs.declared.Verdict.TheVariants.{Good}
-use Rattle.loader.specs.declared.Loaded.{Loaded}
+use Rattle.loader.specs.Faults.{Good, Loaded}
 use Rattle.loader.specs.Load.{Loads}
 use Rattle.writer.specs.Write.{image_of, written}
 use Rattle.image.specs.RoundTrip.{front, trimmed}

@@ -12,18 +12,15 @@ use Rattle.rows.specs.World.{world_of}
 use Rattle.rows.specs.Named.{There}
 use Rattle.disjunction.specs.Sets.{MoreOf}
 use Rattle.disjunction.specs.Asked.{Asked, every_set, every_with, Sought}
-use Rattle.loader.specs.declared.Verdict.TheVariants.{Good}
-use Rattle.loader.specs.declared.Loaded.{Loaded}
-use Rattle.writer.specs.declared.Written.{Written}
-use Rattle.writer.specs.declared.Written.TheVariants.{Length}
+use Rattle.writer.specs.Written.{Written, Length}
+use Rattle.loader.specs.Faults.{Good, Loaded}
 use Rattle.loader.specs.Load.{Loads}
 use Rattle.writer.specs.Write.{Writes}
 use Rattle.image.specs.RoundTrip.{found, trimmed}
 use Rattle.store.specs.Store.{store_in, room_in}
 use Rattle.machine.specs.Machine.{State, finished, refused, Called, call}
 use Rattle.machine.specs.Runs.{Given, run_of, ended_of, handed}
-use Rattle.stream.specs.declared.OpenAnswer.{OpenAnswer}
-use Rattle.stream.specs.declared.HoldingOpenAnswer.{HoldingOpenAnswer}
+use Rattle.stream.specs.Answers.{OpenAnswer, HoldingOpenAnswer}
 use Rattle.stream.specs.Promises.{state_of, holding_state_of, Opens, OpensHolding}
 use Rattle.claims.specs.Demands.{Answered, Able, Demand2, Demand3}
 use Rattle.claims.specs.WriteRefusals.{NeedsTwo}

@@ -9,8 +9,7 @@ use Rattle.tables.specs.Catalogues.{total}
 use Rattle.tables.specs.Checks.{catalogue_fault, Lawful}
 use Rattle.disjunction.specs.Rule.{row_at, extension, alone}
 use Rattle.rows.specs.World.{world_of}
-use Rattle.hub.specs.declared.ListVerdict.{ListVerdict}
-use Rattle.hub.specs.declared.ListVerdict.TheVariants.{Right, Entry, Missing, Refused}
+use Rattle.hub.specs.Answers.{ListVerdict, Right, Entry, Missing, Refused}
 use Rattle.hub.specs.Promises.{MaximalKey, SpoiltKey, SoundKeys, RightKeys, FirstOutKey}
 
 -- The answer r on a list of keys, each by its number.

@@ -2,13 +2,12 @@
 -- from one thing due to the next (`Passes`), and whatever is due may be at fault (`Meets`). Proved in proofs/NumberExactly and proofs/LoadExactly. Assumes nothing.
 use Rattle.std.specs.Prelude.{ℕ, zero, suc, ◌+◌, ◌*◌, ◌^◌, ◌≤◌, ◌<◌, ◌≡◌, ◌⊎◌, ◌↔◌, Bool, true, false, ◌||◌, List, length, get_or, ltb}
 use Rattle.std.specs.Int.Count.{ones}
-use Rattle.numbers.specs.declared.Reading.TheVariants.{Number, NumberFault}
+use Rattle.numbers.specs.Readings.{Number, NumberFault}
 use Rattle.numbers.specs.Numbers.{most_bytes, decode}
 use Rattle.tables.specs.Sizes.{most_attributes, most_tables, most_rows_one, most_cells, version_one, version_two}
 use Rattle.tables.specs.Versions.{most_rows_in}
 use Rattle.tables.specs.Rows.{below, all_null}
-use Rattle.loader.specs.declared.Fault.{Fault}
-use Rattle.loader.specs.declared.Verdict.TheVariants.{Good, Refused}
+use Rattle.loader.specs.Faults.{Fault, Good, Refused}
 use Rattle.loader.specs.Reading.{refusal_at, codes}
 use Rattle.loader.specs.Load.{scan_of}
 use Rattle.door.specs.Door.{check_of}

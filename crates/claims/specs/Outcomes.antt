@@ -4,25 +4,21 @@ use Rattle.std.specs.Prelude.{ℕ, ◌^◌, ◌<◌, ◌≡◌, Bool, List}
 use Rattle.keys.specs.TwoWords.{bits_per_word}
 use Rattle.keys.specs.declared.Key.{Key}
 use Rattle.tables.specs.declared.Catalogue.{Catalogue}
-use Rattle.tables.specs.declared.Made.{Made}
+use Rattle.tables.specs.Checks.{Made}
 use Rattle.tables.specs.Checks.{Makes}
-use Rattle.loader.specs.declared.Loaded.{Loaded}
-use Rattle.writer.specs.declared.Written.{Written}
+use Rattle.writer.specs.Written.{Written}
+use Rattle.loader.specs.Faults.{Loaded}
 use Rattle.loader.specs.Load.{Loads}
 use Rattle.writer.specs.Write.{Writes}
 use Rattle.door.specs.Door.{Checks}
 use Rattle.padding.specs.Covering.{Covers}
 use Rattle.stream.specs.declared.StreamRecord.{StreamRecord}
-use Rattle.stream.specs.declared.OpenAnswer.{OpenAnswer}
-use Rattle.stream.specs.declared.StepAnswer.{StepAnswer}
+use Rattle.stream.specs.Answers.{OpenAnswer, StepAnswer, HoldingOpenAnswer, HoldingStepAnswer}
 use Rattle.stream.specs.declared.HoldingRecord.{HoldingRecord}
-use Rattle.stream.specs.declared.HoldingOpenAnswer.{HoldingOpenAnswer}
-use Rattle.stream.specs.declared.HoldingStepAnswer.{HoldingStepAnswer}
 use Rattle.stream.specs.Promises.{Opens, Steps, OpensHolding, StepsHolding}
-use Rattle.hub.specs.declared.ListVerdict.{ListVerdict}
+use Rattle.hub.specs.Answers.{ListVerdict}
 use Rattle.hub.specs.Promises.{ChecksList}
-use Rattle.harbour.specs.declared.NextAnswer.{NextAnswer}
-use Rattle.harbour.specs.Answers.{Nexts, NextsHolding}
+use Rattle.harbour.specs.Answers.{NextAnswer, Nexts, NextsHolding}
 use Rattle.abi.specs.Calls.{LoadCall, MakeCall, WriteCall, CoversCall}
 use Rattle.abi.specs.Lists.{ListCall}
 use Rattle.abi.specs.Streams.{OpenCall, NextCall, OpenHoldingCall, NextHoldingCall}

@@ -3,17 +3,14 @@
 -- before work). Proved in proofs/Refused. Assumes nothing.
 use Rattle.std.specs.Prelude.{ℕ, ◌≡◌, List, length}
 use Rattle.tables.specs.declared.Catalogue.{Catalogue}
-use Rattle.loader.specs.declared.Fault.{Fault}
-use Rattle.loader.specs.declared.Verdict.TheVariants.{Refused}
-use Rattle.loader.specs.declared.Loaded.{Loaded}
-use Rattle.writer.specs.declared.Written.TheVariants as Written
+use Rattle.writer.specs.Written as Written
+use Rattle.loader.specs.Faults.{Fault, Refused, Loaded}
 use Rattle.tables.specs.Catalogues.{no_tables}
 use Rattle.loader.specs.Load.{Loads}
 use Rattle.writer.specs.Write.{Writes}
 use Rattle.machine.specs.Machine.{call_fault}
 use Rattle.stream.specs.declared.StreamRecord.{StreamRecord}
-use Rattle.stream.specs.declared.OpenAnswer.{OpenAnswer}
-use Rattle.stream.specs.declared.StepAnswer.{StepAnswer}
+use Rattle.stream.specs.Answers.{OpenAnswer, StepAnswer}
 use Rattle.stream.specs.Promises.{state_of, Opens, Steps}
 
 -- Of every call that was refused, whatever by.

@@ -9,7 +9,7 @@ use Rattle.tables.specs.declared.Catalogue.{Catalogue}
 use Rattle.tables.specs.Sizes.{most_rows_one}
 use Rattle.tables.specs.Catalogues.{scheme_of, count_of, row_start}
 use Rattle.tables.specs.Rows.{below}
-use Rattle.writer.specs.declared.Written.TheVariants.{Length, Refused}
+use Rattle.writer.specs.Written.{Length, Refused}
 use Rattle.writer.specs.Write.{image_of, written}
 use Rattle.tables.specs.Checks.{Lawful}
 use Rattle.claims.specs.CatalogueRefusals.{SizesOut, BadScheme, ManyRows, ManyCells, ComesTo, Misstored, ComesToStored, OfCatalogue}

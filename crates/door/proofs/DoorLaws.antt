@@ -4,8 +4,7 @@ use native.Mathlib.Omega.{arith}
 use mathlib.Core.Path.{◌≡◌}
 use mathlib.Core.List.{List}
 use Rattle.tables.specs.Sizes.{most_cells}
-use Rattle.loader.specs.declared.Fault.{Fault}
-use Rattle.loader.specs.declared.Verdict.TheVariants.{Refused}
+use Rattle.loader.specs.Faults.{Fault, Refused}
 use Rattle.loader.specs.Load.{farthest, NearVerdict, scan_of}
 use Rattle.loader.proofs.PlaceLaws.{scan-near}
 use Rattle.door.specs.Door.{check_of}

@@ -2,86 +2,73 @@
 
 // The program `export TABLE`: reads an image from standard input and writes one of its tables, numbered from 0, as comma-separated text.
 // An image that is refused, or a table that it lacks, is told on standard error, and nothing is written.
-ghost use Rattle.std.specs.Prelude.{◌≤◌, length};
-ghost use Rattle.tables.specs.Sizes.{most_cells};
+use loader::Fault;
+use refusals::Refusal;
+use tables::Tables;
 
-use exporter::TextWritten;
-use lines::Word;
-use loader::Verdict;
-use tables::Catalogue;
+// The most bytes that are read.
+const MOST_INPUT: usize = 65536;
 
-// Says on standard error what the arguments are.
-fn usage(rt: &HostRuntime) {
-    teller::say(rt, b"usage: export TABLE\n");
+// Why no text is written: arguments that name no table, an input that is too long, or a refusal and the place in the image at which it is met, or 0.
+#[derive(Drop)]
+enum Failure {
+    WrongArguments,
+    LongInput,
+    Refused(Refusal, usize),
 }
 
-// Writes a table whose cells begin at the front of those given.
-fn write_table(rt: &HostRuntime, m: usize, scheme: u64, rows: usize, cells: &[u64]) {
-    let mut out = [0u8; 262144];
-    match exporter::write_text(m, scheme, rows, cells, &mut out) {
-        TextWritten::Length(n) => teller::send(rt, &out, n),
-        TextWritten::Refused(number) => {
-            let numbers = [number as u64, 0];
-            teller::tell(rt, &numbers);
-        }
+impl From<Fault> for Failure {
+    fn from(fault: Fault) -> Failure {
+        Failure::Refused(fault.refusal, fault.place)
     }
 }
 
-// Writes a table of the catalogue.
-// The catalogue is checked again, so that the place stored of the table is known to lie among the cells.
-fn write_of(rt: &HostRuntime, cat: Catalogue, table: usize, cells: &[u64])
-    requires { most_cells ≤ length cells.now }
-{
-    let fault = tables::fault(cat, 8192);
-    if fault != 0 {
-        let numbers = [fault as u64, 0];
-        teller::tell(rt, &numbers);
-        return;
+impl From<Refusal> for Failure {
+    fn from(refusal: Refusal) -> Failure {
+        Failure::Refused(refusal, 0)
     }
-    if cat.n <= table {
-        usage(rt);
-        return;
-    }
-    let start = cat.places[table] as usize;
-    write_table(
-        rt,
-        cat.m,
-        cat.schemes[table],
-        cat.rows[table] as usize,
-        &cells[start..],
-    );
 }
 
-// Reads standard input as an image and writes a table of it.
-fn export_table(rt: &HostRuntime, table: usize) {
-    let mut input = [0u8; 65537];
-    let n = teller::read_full(&mut rt.stdin(), &mut input);
-    if 65536 < n {
-        teller::say(rt, b"input too long\n");
-        return;
-    }
+// Puts a table of an image as text into the front of the output, and gives the text's length.
+// The catalogue is checked again, so that the table's cells are known to lie among those that were lent.
+fn export_image(image: &[u8], table: usize, out: &mut [u8]) -> Result<usize, Failure> {
     let mut cells = [0u64; 8192];
-    let loaded = loader::load(&input[..n], &mut cells);
-    let verdict = loaded.verdict;
-    match verdict {
-        Verdict::Good => write_of(rt, loaded.catalogue, table, &cells),
-        Verdict::Refused(f) => {
-            let numbers = [f.refusal as u64, f.place as u64];
-            teller::tell(rt, &numbers);
-        }
+    let cat = loader::load(image, &mut cells)?;
+    let tables = Tables::new(cat, &cells)?;
+    if cat.n <= table {
+        return Err(Failure::WrongArguments);
     }
+    let scheme = cat.schemes[table];
+    let rows = usize::from(cat.rows[table]);
+    let length = exporter::write_text(cat.m, scheme, rows, tables.cells_of(table), out)?;
+    Ok(length)
 }
 
-// Writes the table that the argument names.
-fn main(rt: HostRuntime) {
-    if teller::arg_count(&rt) != 2 {
-        usage(&rt);
-        return;
+// Writes the table that the argument names of the image on standard input.
+fn export(rt: &HostRuntime) -> Result<(), Failure> {
+    if teller::arg_count(rt) != 2 {
+        return Err(Failure::WrongArguments);
     }
-    let mut word = [0u8; 64];
-    let n = teller::arg(&rt, 1, &mut word);
-    match lines::read_decimal(&word[..n]) {
-        Word::Number(t) => export_table(&rt, t as usize),
-        Word::Other => usage(&rt),
+    let table = teller::number(rt, 1).ok_or(Failure::WrongArguments)?;
+    let mut input = [0u8; MOST_INPUT + 1];
+    let n = teller::read_full(&mut rt.stdin(), &mut input);
+    if MOST_INPUT < n {
+        return Err(Failure::LongInput);
+    }
+    let mut out = [0u8; 262144];
+    let length = export_image(&input[..n], table as usize, &mut out)?;
+    teller::send(rt, &out, length);
+    Ok(())
+}
+
+// Exports, or tells on standard error why nothing is written.
+fn main(rt: HostRuntime) {
+    match export(&rt) {
+        Ok(()) => {}
+        Err(Failure::WrongArguments) => teller::say(&rt, b"usage: export TABLE\n"),
+        Err(Failure::LongInput) => teller::say(&rt, b"input too long\n"),
+        Err(Failure::Refused(refusal, place)) => {
+            teller::tell(&rt, &[u64::from(refusal), place as u64]);
+        }
     }
 }

@@ -1,142 +1,77 @@
--- The refusals of a table, one law for each way that the checker goes. Assumes nothing.
-use Prim.Native.Nat.{ℕ, zero, suc, ◌+◌, ◌-◌, ◌*◌, ◌^◌, ◌≤◌, ◌<◌}
-use native.Mathlib.Nat.{suc-mul, mul-le-mul}
-use native.Mathlib.Numerals.{sub-one}
+-- The refusals of a table: they are the image writer's of a table alone, in version 1. Assumes nothing.
+use Prim.Native.Nat.{ℕ, zero, suc, ◌+◌, ◌*◌}
+use native.Mathlib.Nat.{zero-add}
 use native.Mathlib.Omega.{arith}
 use mathlib.Core.Path.{◌≡◌, refl}
-use mathlib.Core.Bool.{true, false}
+use mathlib.Core.Bool.{Bool, true, false, cond, ◌||◌}
 use mathlib.Core.List.{List, [], ◌∷◌}
-use lib.ListN.{length, drop, get_or}
+use lib.ListN.{length, drop}
 use lib.Seq.{drop-drop}
-use lib.Count.{ones, ones-le}
+use lib.Count.{ones}
 use lib.Dec.{ltb}
-use borrow.Author.Tests.{lt-ltb, le-ltb, le-leb, lt-leb}
 use Rattle.laws.specs.Lists.{part}
-use Rattle.laws.proofs.ListLaws.{part_none, part-more}
-use Rattle.laws.proofs.TestLaws.{or_right}
-use Rattle.tables.specs.Sizes.{most_attributes, most_rows, most_cells}
-use Rattle.tables.specs.Rows.{below}
-use Rattle.tables.specs.Checks.{first_met, bad_scheme}
-use Rattle.text.specs.Lines.{no_code}
+use Rattle.tables.specs.Sizes.{most_attributes, most_rows, most_cells, version_one}
+use Rattle.tables.specs.Checks.{first_met, outside, size_fault, bad_scheme, count_fault, table_fault as table_fault_of}
+use Rattle.tables.specs.Versions.{blank}
+use Rattle.tables.proofs.VersionLaws.{blank-other}
+use Rattle.writer.specs.Write.{too_high as too_high_of, rows_fault as rows_fault_of}
 use Rattle.text.specs.Writing.{cut, too_high, rows_fault, all_fault, table_fault, write_fault}
 
--- ---- 10
+-- ---- 10 and 7
 
-module _ (cells : List ℕ) (a k : ℕ) where
-  pub high-none : k ≤ 0 → too_high (part a k cells) ≡ false
-  unfolding too_high
-  high-none z = rw (part_none a k cells z)
+pub high_is : (r : List ℕ) → too_high_of r ≡ too_high r
+unfolding too_high too_high_of
+high_is [] = refl
+high_is (x ∷ r) = rw (high_is r)
 
-  pub high-here : 0 < k → a < length cells → no_code ≤ get_or cells a 0 → too_high (part a k cells) ≡ true
-  unfolding too_high
-  high-here z h l = rw (part-more a k cells z h, le-leb no_code (get_or cells a 0) l)
+-- In version 1 no row is 21.
+pub none-blank : (r : List ℕ) → blank version_one r ≡ false
+none-blank r = blank-other version_one r (λ e. absurd (omega arith))
 
-  pub high-more : 0 < k → a < length cells → get_or cells a 0 < no_code → too_high (part a k cells) ≡ too_high (part (a + 1) (k - 1) cells)
-  unfolding too_high
-  high-more z h l = rw (part-more a k cells z h, lt-leb no_code (get_or cells a 0) l)
+module _ (w : ℕ) (cells : List ℕ) where
+  later_rows : (k before at : ℕ) → rows_fault_of k w cells version_one false before at ≡ rows_fault (part before w cells) (cut k w (drop at cells))
+  unfolding rows_fault rows_fault_of cut
+  later_rows zero before at = refl
+  later_rows (suc k) before at = rw (high_is (part at w cells), none-blank (part at w cells), later_rows k at (at + w), ← drop-drop w at cells)
 
--- ---- rows one after the other
+  pub all-rows : (k : ℕ) → rows_fault_of k w cells version_one true 0 0 ≡ all_fault (cut k w cells)
+  unfolding all_fault rows_fault_of cut
+  all-rows zero = refl
+  all-rows (suc k) = rw (high_is (part 0 w cells), none-blank (part 0 w cells), later_rows k 0 (0 + w), ← drop-drop w 0 cells)
 
--- The rows from a cell on: the next, and those behind it.
-pub cut-more : (k w : ℕ) (cells : List ℕ) (at : ℕ) → 0 < k → cut k w (drop at cells) ≡ part at w cells ∷ cut (k - 1) w (drop (at + w) cells)
-unfolding cut
-cut-more zero w cells at h = absurd (omega arith)
-cut-more (suc k) w cells at h = rw (sub-one (suc k), drop-drop w at cells)
+-- ---- 4, 5, 6 and 8
 
-pub cut-none : (k w : ℕ) (cells : List ℕ) → k ≤ 0 → cut k w cells ≡ []
-unfolding cut
-cut-none zero w cells h = refl
-cut-none (suc k) w cells h = absurd (omega arith)
-
-module _ (cells : List ℕ) (w : ℕ) where
-  pub all_none : (k : ℕ) → k ≡ 0 → all_fault (cut k w cells) ≡ 0
-  unfolding all_fault
-  all_none k e = rw (cut-none k w cells (omega arith))
-
-  pub all-high : (k : ℕ) → 0 < k → too_high (part 0 w cells) ≡ true → all_fault (cut k w cells) ≡ 10
-  unfolding all_fault
-  all-high k h e = rw (cut-more k w cells 0 h, e)
-
-  pub all_first : (k : ℕ) → 0 < k → too_high (part 0 w cells) ≡ false → all_fault (cut k w cells) ≡ rows_fault (part 0 w cells) (cut (k - 1) w (drop (0 + w) cells))
-  unfolding all_fault
-  all_first k h e = rw (cut-more k w cells 0 h, e)
-
-  module _ (before k : ℕ) where
-    -- What the rows behind the row at `before` meet.
-    abbrev pub behind : ℕ
-    behind = rows_fault (part before w cells) (cut k w (drop (before + w) cells))
-
-    pub rows_none : k ≤ 0 → behind ≡ 0
-    unfolding rows_fault
-    rows_none h = rw (cut-none k w (drop (before + w) cells) h)
-
-    pub rows-high : 0 < k → too_high (part (before + w) w cells) ≡ true → behind ≡ 10
-    unfolding rows_fault
-    rows-high h e = rw (cut-more k w cells (before + w) h, e)
-
-    pub rows-fall : 0 < k → too_high (part (before + w) w cells) ≡ false → below (part before w cells) (part (before + w) w cells) ≡ false → behind ≡ 7
-    unfolding rows_fault
-    rows-fall h e f = rw (cut-more k w cells (before + w) h, e, f)
-
-    pub rows_on : 0 < k → too_high (part (before + w) w cells) ≡ false → below (part before w cells) (part (before + w) w cells) ≡ true
-        → behind ≡ rows_fault (part (before + w) w cells) (cut (k - 1) w (drop (before + w + w) cells))
-    unfolding rows_fault
-    rows_on h e f = rw (cut-more k w cells (before + w) h, e, f)
-
--- Room for the rows: one row less, and what it takes.
-pub room-less : (k w : ℕ) → 0 < k → k * w ≡ (k - 1) * w + w
-room-less zero w h = absurd (omega arith)
-room-less (suc k) w h = rw (sub-one (suc k)) (omega (arith, suc-mul k w))
-
--- ---- 4, 5, 6, 8
-
--- A table that meets no 6 has so few cells that their number fits.
-pub text-cells-few : (count x : ℕ) → count ≤ most_rows → x < 2 ^ 64 → count * ones x ≤ most_rows * 64
-text-cells-few count x h l = mul-le-mul h (ones-le 64 x l)
-
-module _ (m x count lent : ℕ) where
-  pub m-low : m < 1 → table_fault m x count lent ≡ 4
-  unfolding table_fault
-  m-low h = rw (lt-ltb m 1 h)
-
-  pub m-high : most_attributes < m → table_fault m x count lent ≡ 4
-  unfolding table_fault
-  m-high h = rw (lt-ltb most_attributes m h, or_right (ltb m 1) {b = true} refl)
-
-  module _ (a : 1 ≤ m) (b : m ≤ most_attributes) where
-    pub scheme-out : bad_scheme m x ≡ true → table_fault m x count lent ≡ 5
-    unfolding table_fault
-    scheme-out e = rw (le-ltb m 1 a, le-ltb most_attributes m b, e)
-
-    module _ (e : bad_scheme m x ≡ false) where
-      pub rows-many : most_rows < count → table_fault m x count lent ≡ 6
-      unfolding table_fault
-      rows-many h = rw (le-ltb m 1 a, le-ltb most_attributes m b, e, lt-ltb most_rows count h)
-
-      module _ (few : count ≤ most_rows) where
-        pub cells-many : most_cells < count * ones x → table_fault m x count lent ≡ 8
-        unfolding table_fault
-        cells-many h = rw (le-ltb m 1 a, le-ltb most_attributes m b, e, le-ltb most_rows count few, lt-ltb most_cells (count * ones x) h)
-
-        pub cells-short : lent < count * ones x → table_fault m x count lent ≡ 8
-        unfolding table_fault
-        cells-short h =
-            rw (le-ltb m 1 a, le-ltb most_attributes m b, e, le-ltb most_rows count few, lt-ltb lent (count * ones x) h, or_right (ltb most_cells (count * ones x)) {b = true} refl)
-
-        pub table-good : count * ones x ≤ most_cells → count * ones x ≤ lent → table_fault m x count lent ≡ 0
-        unfolding table_fault
-        table-good h k =
-            rw (le-ltb m 1 a, le-ltb most_attributes m b, e, le-ltb most_rows count few, le-ltb most_cells (count * ones x) h, le-ltb lent (count * ones x) k)
-
--- The table's own, then the rows'.
-pub fault-first : (m x count : ℕ) (cells : List ℕ) → 0 < table_fault m x count (length cells) → write_fault m x count cells ≡ table_fault m x count (length cells)
-unfolding write_fault
-fault-first m x count cells h = by (table_fault m x count (length cells)) h
+-- m is looked at as beside one table, and the table as the first.
+pub table-alone : (m x count lent : ℕ) → first_met (size_fault m 1) (table_fault_of m lent 0 x count) ≡ table_fault m x count lent
+unfolding size_fault table_fault_of count_fault table_fault
+table-alone m x count lent =
+    rw (zero-add (count * ones x))
+    (by (outside 1 most_attributes m) (cond (bad_scheme m x) 5 (cond (ltb most_rows count) 6 (cond (ltb most_cells (count * ones x) || ltb lent (count * ones x)) 8 0))))
   where
-    by : (f : ℕ) → 0 < f → first_met f (all_fault (cut count (ones x) cells)) ≡ f
-    by zero z = absurd (omega arith)
-    by (suc k) z = refl
+    by : (bad : Bool) (later : ℕ) → first_met (cond bad 4 0) later ≡ cond bad 4 later
+    by true later = refl
+    by false later = refl
 
-pub fault-rows : (m x count : ℕ) (cells : List ℕ) → table_fault m x count (length cells) ≡ 0 → write_fault m x count cells ≡ all_fault (cut count (ones x) cells)
-unfolding write_fault
-fault-rows m x count cells e = rw e
+-- The table's own refusal, then its rows': what a write meets, by the test that is the first to meet one.
+module _ (m x count : ℕ) (cells : List ℕ) where
+  write-is : write_fault m x count cells ≡ first_met (first_met (size_fault m 1) (table_fault_of m (length cells) 0 x count)) (all_fault (cut count (ones x) cells))
+  unfolding write_fault
+  write-is = rw (table-alone m x count (length cells))
+
+  pub write-sizes : (k : ℕ) → k ≡ size_fault m 1 → (k ≡ 0 → ⊥) → k ≡ write_fault m x count cells
+  write-sizes k e n = rw (write-is, ← e) (by k n)
+    where
+      by : (k : ℕ) → (k ≡ 0 → ⊥) → k ≡ first_met (first_met k (table_fault_of m (length cells) 0 x count)) (all_fault (cut count (ones x) cells))
+      by zero n = absurd (n refl)
+      by (suc k) n = refl
+
+  module _ (sizes : size_fault m 1 ≡ 0) where
+    pub write-table : (k : ℕ) → k ≡ table_fault_of m (length cells) 0 x count → (k ≡ 0 → ⊥) → k ≡ write_fault m x count cells
+    write-table k e n = rw (write-is, sizes, ← e) (by k n)
+      where
+        by : (k : ℕ) → (k ≡ 0 → ⊥) → k ≡ first_met k (all_fault (cut count (ones x) cells))
+        by zero n = absurd (n refl)
+        by (suc k) n = refl
+
+    pub write-rows : table_fault_of m (length cells) 0 x count ≡ 0 → all_fault (cut count (ones x) cells) ≡ write_fault m x count cells
+    write-rows e = rw (write-is, sizes, e)

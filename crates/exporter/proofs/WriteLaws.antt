@@ -1,24 +1,27 @@
 -- The answer of a whole write from its parts. Assumes nothing.
-use Prim.Native.Nat.{ℕ, zero, suc, ◌+◌, ◌^◌, ◌≤◌, ◌<◌}
-use native.Mathlib.Nat.{mul-one}
+use Prim.Native.Nat.{ℕ, zero, suc, ◌+◌, ◌*◌, ◌^◌, ◌≤◌, ◌<◌}
+use native.Mathlib.Nat.{mul-one, suc-mul, mul-div_cancel}
 use native.Mathlib.Omega.{arith}
 use mathlib.Core.Path.{◌≡◌, refl, sym, ap, ◌∙◌}
 use mathlib.Core.Logic.{◌⊎◌, inl, inr}
 use mathlib.Core.List.{List, ◌++◌}
-use lib.ListN.{length, drop, length-append}
-use lib.Seq.{take_at}
-use lib.Count.{ones}
+use lib.ListN.{length, take, drop, length-append}
+use lib.Seq.{length-take-le}
+use lib.Count.{ones, ones-le}
 use borrow.Author.Tests.{lt-ltb, le-ltb}
-use Rattle.laws.specs.Lists.{put, part}
+use Rattle.std.proofs.lemmas.List.{drop-take, take-take}
+use Rattle.laws.specs.Lists.{put}
+use Rattle.tables.specs.Sizes.{most_attributes}
 use Rattle.tables.specs.Checks.{first_met}
 use Rattle.text.specs.Reading.{scheme_from}
-use Rattle.text.specs.Writing.{attribute_codes, line_text, lines_text, text_of, cut, table_fault, all_fault, write_fault, wrote, unwritten, write_of}
+use Rattle.text.specs.Writing.{attribute_codes, line_text, text_of, cut, table_fault, all_fault, write_fault, wrote, unwritten, write_of}
 use Rattle.text.specs.Refusals.{TablePasses, TableMeets}
 use Rattle.text.proofs.WriteExactly.{table-says, table-some, table-ways}
 use Rattle.text.proofs.Headers.{header-scheme, header-width}
 use Rattle.text.proofs.RoundTrip.{some-code}
-use Rattle.exporter.specs.declared.TextWritten.TheVariants.{Length, Refused}
-use Rattle.exporter.specs.Promise.{WritesText}
+use Rattle.exporter.specs.TextWritten.{Length, Refused}
+use Rattle.exporter.specs.Promise.{text_in, WritesText}
+use Rattle.exporter.proofs.TextLaws.{lines_in}
 
 -- ---- what a table without fault is
 
@@ -43,29 +46,48 @@ ones-some m x h l =
     let e : scheme_from (attribute_codes m 0 x) ≡ x = header-scheme m 0 x l ∙ mul-one x in
     omega (arith, some-code (attribute_codes m 0 x) (omega arith), header-width m 0 x l)
 
--- The header's codes stand in front.
-pub head-is : (m x : ℕ) (o head : List ℕ) → x < 2 ^ m → head ≡ put (attribute_codes m 0 x) o → part 0 (ones x) head ≡ attribute_codes m 0 x
-head-is m x o head l e = rw e (take_at (attribute_codes m 0 x) (drop (length (attribute_codes m 0 x)) o) (ones x) (header-width m 0 x l))
+-- A header has a code, and not many.
+pub codes-some : (m x : ℕ) → 0 < x → x < 2 ^ m → 0 < length (attribute_codes m 0 x)
+codes-some m x h l = omega (arith, ones-some m x h l, header-width m 0 x l)
 
--- ---- the text's length
+pub codes-few : (m x : ℕ) → m ≤ most_attributes → x < 2 ^ m → length (attribute_codes m 0 x) ≤ 63
+codes-few m x h l = omega (arith, header-width m 0 x l, ones-le m x l)
 
-module _ (m x count : ℕ) (cells : List ℕ) where
-  abbrev text : List ℕ
-  text = text_of m x (cut count (ones x) cells)
+-- ---- the text
 
-  pub text-is : text ≡ line_text (attribute_codes m 0 x) ++ lines_text (cut count (ones x) cells)
+module _ (m x : ℕ) (cells : List ℕ) where
+  pub text-is : text_in m x cells ≡ line_text (attribute_codes m 0 x) ++ lines_in (ones x) cells
   unfolding text_of
   text-is = refl
 
-  pub text-length : length text ≡ length (line_text (attribute_codes m 0 x)) + length (lines_text (cut count (ones x) cells))
-  text-length = ap length text-is ∙ length-append (line_text (attribute_codes m 0 x)) (lines_text (cut count (ones x) cells))
+  pub text-length : length (text_in m x cells) ≡ length (line_text (attribute_codes m 0 x)) + length (lines_in (ones x) cells)
+  text-length = ap length text-is ∙ length-append (line_text (attribute_codes m 0 x)) (lines_in (ones x) cells)
+
+-- The rows are cut from the table's own cells as from all that are lent.
+cut-front : (k w : ℕ) (cells : List ℕ) → cut k w (take (k * w) cells) ≡ cut k w cells
+unfolding cut
+cut-front zero w cells = refl
+cut-front (suc k) w cells =
+    let wide : suc k * w ≡ w + k * w = omega (arith, suc-mul k w) in
+    rw (wide, take-take w (w + k * w) cells (omega arith), drop-take w (k * w) cells, cut-front k w (drop w cells))
+
+module _ (m x count : ℕ) (cells : List ℕ) where
+  abbrev pub text : List ℕ
+  text = text_of m x (cut count (ones x) cells)
+
+  -- The text of a table alone is the text of the table that is lent.
+  pub text-alone : write_fault m x count cells ≡ 0 → text_in m x (take (count * ones x) cells) ≡ text
+  text-alone e =
+      let p = good-table m x count cells e in
+      let n = length-take-le (count * ones x) cells p.fits in
+      rw (n, mul-div_cancel count (ones-some m x p.scheme-some p.scheme-low), cut-front count (ones x) cells)
 
   -- ---- the write
 
   module _ (lent : List ℕ) where
-    refused-is : (k : ℕ) → 0 < k → write_fault m x count cells ≡ k → write_of m x count cells (length lent) ≡ unwritten k
+    refused-is : (k : ℕ) → (k ≡ 0 → ⊥) → write_fault m x count cells ≡ k → write_of m x count cells (length lent) ≡ unwritten k
     unfolding write_of
-    refused-is zero h e = absurd (omega arith)
+    refused-is zero h e = absurd (h refl)
     refused-is (suc k) h e = rw e
 
     short-is : write_fault m x count cells ≡ 0 → length lent < length text → write_of m x count cells (length lent) ≡ unwritten 11
@@ -76,7 +98,7 @@ module _ (m x count : ℕ) (cells : List ℕ) where
     unfolding write_of
     good-is e h = rw (e, le-ltb (length lent) (length text) h)
 
-    pub writes-refused : (k : ℕ) → 0 < k → k ≡ write_fault m x count cells → WritesText m x count cells lent (Refused k) lent
+    pub writes-refused : (k : ℕ) → (k ≡ 0 → ⊥) → k ≡ write_fault m x count cells → WritesText m x count cells lent (Refused k) lent
     writes-refused k h e = let q = refused-is k h (sym e) in record { answer = rw q; bytes = rw q }
 
     pub writes_short : write_fault m x count cells ≡ 0 → length lent < length text → WritesText m x count cells lent (Refused 11) lent

@@ -1,1 +1,2 @@
+pub mod TextWritten
 pub mod Promise

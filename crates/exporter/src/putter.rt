@@ -1,81 +1,58 @@
-// The second pass: the text of a table that meets no refusal, into bytes that have room for it.
-ghost use Rattle.std.specs.Prelude.{◌≡◌, ◌∷◌, ◌+◌, ◌*◌, ◌≤◌, ◌<◌, length};
-ghost use Rattle.laws.specs.Lists.{put, part, Placed};
-ghost use Rattle.text.specs.Lines.{comma};
-ghost use Rattle.std.specs.Int.Count.{ones};
-ghost use Rattle.text.specs.Writing.{cell_text, rest_text, line_text, lines_text, text_of, cut, write_fault};
+// The second pass: the text of a table into bytes that have room for it.
+ghost use Rattle.std.specs.Prelude.{◌≡◌, ◌/◌, ◌≤◌, ◌<◌, length};
+ghost use Rattle.laws.specs.Lists.{put};
+ghost use Rattle.lines.specs.Cursors.{HasRoom, Puts, SameBuffer};
+ghost use Rattle.text.specs.Writing.{cell_text, line_text, lines_text, cut};
+ghost use Rattle.exporter.specs.Promise.{text_in};
 
-use crate::header;
+use crate::table::Table;
+use lines::Cursor;
 
 // Puts a cell: the digits of its value, or nothing for null.
-fn put_cell(code: u64, out: &mut [u8], at: usize) -> usize
-    requires { at + length (cell_text code) ≤ length out.old }
-    ensures { Placed (cell_text code) at out.old result out.new }
+fn put_cell(code: u64, to: &mut Cursor<'_>)
+    requires { HasRoom to.old (length (cell_text code)) }
+    ensures puts { Puts (cell_text code) to.old to.new }
+    ensures same { SameBuffer to.old to.new }
 {
-    if code == 0 {
-        return at;
+    if code != 0 {
+        to.decimal(code - 1);
     }
-    lines::put_decimal(code - 1, out, at)
 }
 
-// Puts a comma and a cell.
-fn put_next(code: u64, out: &mut [u8], at: usize) -> usize
-    requires { at + length (comma ∷ cell_text code) ≤ length out.old }
-    ensures { Placed (comma ∷ cell_text code) at out.old result out.new }
+// Puts the line of a row: its cells with a comma between two, and the line's end.
+fn put_line(row: &[u64], to: &mut Cursor<'_>)
+    requires { (0 < length row.now) × HasRoom to.old (length (line_text row.now)) }
+    ensures puts { Puts (line_text row.now) to.old to.new }
+    ensures same { SameBuffer to.old to.new }
 {
-    let behind = lines::put_word(b",", out, at);
-    put_cell(code, out, behind)
-}
-
-// Puts the cells behind the first of a line, each behind a comma, and the line's end.
-fn put_rest(codes: &[u64], from: usize, count: usize, out: &mut [u8], start: usize) -> usize
-    requires { (from + count ≤ length codes.now) × (start + length (rest_text (part from count codes.now)) ≤ length out.old) }
-    ensures { Placed (rest_text (part from count codes.now)) start out.old result out.new }
-{
-    let mut at = start;
-    let mut i = from;
-    let mut left = count;
-    while 0 < left {
-        at = put_next(codes[i], out, at);
-        i = i + 1;
-        left = left - 1;
+    put_cell(row[0], to);
+    for code in &row[1..] {
+        to.word(b",");
+        put_cell(*code, to);
     }
-    lines::put_word(b"\r\n", out, at)
+    to.word(b"\r\n");
 }
 
-// Puts the line of a row of w cells.
-pub fn put_line(codes: &[u64], from: usize, w: usize, out: &mut [u8], at: usize) -> usize
-    requires { (0 < w) × (from + w ≤ length codes.now) × (at + length (line_text (part from w codes.now)) ≤ length out.old) }
-    ensures { Placed (line_text (part from w codes.now)) at out.old result out.new }
+// Puts the lines of rows of so many cells.
+fn put_rows(cells: &[u64], width: usize, to: &mut Cursor<'_>)
+    requires { (0 < width)
+        × HasRoom to.old (length (lines_text (cut (length cells.now / width) width cells.now))) }
+    ensures puts { Puts (lines_text (cut (length cells.now / width) width cells.now)) to.old to.new }
+    ensures same { SameBuffer to.old to.new }
 {
-    let behind = put_cell(codes[from], out, at);
-    put_rest(codes, from + 1, w - 1, out, behind)
-}
-
-// Puts the lines of so many rows.
-pub fn put_rows(cells: &[u64], rows: usize, w: usize, out: &mut [u8], start: usize) -> usize
-    requires { (0 < w) × (rows * w ≤ length cells.now) × (start + length (lines_text (cut rows w cells.now)) ≤ length out.old) }
-    ensures { Placed (lines_text (cut rows w cells.now)) start out.old result out.new }
-{
-    let mut at = start;
-    let mut from: usize = 0;
-    let mut left = rows;
-    while 0 < left {
-        at = put_line(cells, from, w, out, at);
-        from = from + w;
-        left = left - 1;
+    for row in cells.chunks_exact(width) {
+        put_line(row, to);
     }
-    at
 }
 
-// Puts the text of a table that meets no refusal into the front of the bytes: its header, then row by row.
-pub fn put_text(m: usize, scheme: u64, rows: usize, cells: &[u64], out: &mut [u8])
-    requires { (write_fault m scheme rows cells.now ≡ 0) × (length (text_of m scheme (cut rows (ones scheme) cells.now)) ≤ length out.old) }
-    ensures { out.new ≡ put (text_of m scheme (cut rows (ones scheme) cells.now)) out.old }
+// Puts the text of a table into the front of the bytes: its header, then row by row.
+pub fn put_text(table: &Table<'_>, out: &mut [u8])
+    requires { length (text_in table.now.m table.now.scheme table.now.cells.now) ≤ length out.old }
+    ensures { out.new ≡ put (text_in table.now.m table.now.scheme table.now.cells.now) out.old }
 {
-    let w = tables::width(scheme);
-    let mut head: [u64; 64] = [0; 64];
-    header::attributes(m, scheme, &mut head);
-    let at = put_line(&head, 0, w, out, 0);
-    put_rows(cells, rows, w, out, at);
+    let width = table.width();
+    let head = table.header();
+    let mut to = Cursor { out, at: 0 };
+    put_line(&head[..width], &mut to);
+    put_rows(table.cells, width, &mut to);
 }

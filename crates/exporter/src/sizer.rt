@@ -1,11 +1,10 @@
 // How long the text of a table is.
-ghost use Rattle.std.specs.Prelude.{◌≡◌, ◌+◌, ◌*◌, ◌≤◌, ◌<◌, length};
-ghost use Rattle.laws.specs.Lists.{part};
-ghost use Rattle.tables.specs.Sizes.{most_rows};
-ghost use Rattle.std.specs.Int.Count.{ones};
-ghost use Rattle.text.specs.Writing.{cell_text, line_text, lines_text, text_of, cut, write_fault};
+ghost use Rattle.std.specs.Prelude.{◌≡◌, ◌/◌, ◌≤◌, ◌<◌, length};
+ghost use Rattle.tables.specs.Sizes.{most_cells};
+ghost use Rattle.text.specs.Writing.{cell_text, line_text, lines_text, cut};
+ghost use Rattle.exporter.specs.Promise.{text_in};
 
-use crate::header;
+use crate::table::Table;
 
 // How many bytes a cell takes.
 fn cell_length(code: u64) -> usize
@@ -18,45 +17,31 @@ fn cell_length(code: u64) -> usize
 }
 
 // How many bytes the line of a row takes: its cells, a comma between two, and the line's end.
-pub fn line_length(codes: &[u64], from: usize, w: usize) -> usize
-    requires { (0 < w) × (w ≤ 64) × (from + w ≤ length codes.now) }
-    ensures { result ≡ length (line_text (part from w codes.now)) }
+fn line_length(row: &[u64]) -> usize
+    requires { (0 < length row.now) × (length row.now ≤ most_cells) }
+    ensures { result ≡ length (line_text row.now) }
 {
-    let mut sum = cell_length(codes[from]);
-    let mut i = from + 1;
-    let mut left = w - 1;
-    while 0 < left {
-        sum = sum + 1 + cell_length(codes[i]);
-        i = i + 1;
-        left = left - 1;
-    }
-    sum + 2
+    let fields: usize = row.iter().map(|code| cell_length(*code)).sum();
+    fields + row.len() + 1
 }
 
-// How many bytes the lines of so many rows take.
-pub fn rows_length(cells: &[u64], rows: usize, w: usize) -> usize
-    requires { (0 < w) × (w ≤ 64) × (rows ≤ most_rows) × (rows * w ≤ length cells.now) }
-    ensures { result ≡ length (lines_text (cut rows w cells.now)) }
+// How many bytes the lines of rows of so many cells take.
+fn rows_length(cells: &[u64], width: usize) -> usize
+    requires { (0 < width) × (length cells.now ≤ most_cells) }
+    ensures { result ≡ length (lines_text (cut (length cells.now / width) width cells.now)) }
 {
-    let mut sum: usize = 0;
-    let mut from: usize = 0;
-    let mut left = rows;
-    while 0 < left {
-        sum = sum + line_length(cells, from, w);
-        from = from + w;
-        left = left - 1;
+    let mut sum = 0;
+    for row in cells.chunks_exact(width) {
+        sum += line_length(row);
     }
     sum
 }
 
-// How many bytes the text of a table takes that meets no refusal.
-pub fn text_length(m: usize, scheme: u64, rows: usize, cells: &[u64]) -> usize
-    requires { write_fault m scheme rows cells.now ≡ 0 }
-    ensures { result ≡ length (text_of m scheme (cut rows (ones scheme) cells.now)) }
+// How many bytes the text of a table takes.
+pub fn text_length(table: &Table<'_>) -> usize
+    ensures { result ≡ length (text_in table.now.m table.now.scheme table.now.cells.now) }
 {
-    let w = tables::width(scheme);
-    let mut head: [u64; 64] = [0; 64];
-    header::attributes(m, scheme, &mut head);
-    let first = line_length(&head, 0, w);
-    first + rows_length(cells, rows, w)
+    let width = table.width();
+    let head = table.header();
+    line_length(&head[..width]) + rows_length(table.cells, width)
 }

@@ -29,7 +29,7 @@ use Rattle.claims.specs.Demands.{Demand2, Answered}
 use Rattle.claims.proofs.Opens.{opens-iff}
 use Rattle.claims.proofs.InARow.{in-row-ran}
 use Rattle.claims.proofs.Demanded.{demands}
-use Rattle.loader.specs.declared.Loaded.{Loaded}
+use Rattle.loader.specs.Faults.{Loaded}
 use Rattle.writer.specs.Write.{Accepted}
 use Rattle.image.proofs.RoundTrip.{loads-accepted}
 use Rattle.facts.specs.Filing.{Renumbering, renumbered, reordered, reordered_in}

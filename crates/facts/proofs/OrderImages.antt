@@ -12,7 +12,7 @@ use Rattle.tables.specs.declared.Catalogue.{Catalogue}
 use Rattle.tables.specs.Sizes.{most_tables}
 use Rattle.tables.specs.Catalogues.{scheme_of, count_of, first_cell, for_tables, filled, given}
 use Rattle.tables.proofs.StoredLaws.{for-long, for-past}
-use Rattle.loader.specs.declared.Loaded.{Loaded}
+use Rattle.loader.specs.Faults.{Loaded}
 use Rattle.loader.specs.Load.{Loads}
 use Rattle.writer.specs.Write.{image_of, Accepted}
 use Rattle.writer.proofs.AcceptLaws.{accepted-fault}

@@ -10,15 +10,14 @@ use Rattle.disjunction.specs.Cells.{padded}
 use Rattle.rows.specs.World.{cells_in, world_of, set_of}
 use Rattle.rows.specs.Named.{There}
 use Rattle.padding.specs.Covering.{covering}
-use Rattle.loader.specs.declared.Verdict.TheVariants.{Good}
-use Rattle.loader.specs.declared.Loaded.{Loaded}
+use Rattle.loader.specs.Faults.{Good, Loaded}
 use Rattle.loader.specs.Load.{Loads}
 use Rattle.writer.specs.Write.{image_of}
 use Rattle.image.specs.RoundTrip.{found}
 use Rattle.store.specs.Store.{store_in, room_in}
 use Rattle.machine.specs.Machine.{State, a_set, finished, Called}
 use Rattle.machine.specs.Runs.{Given, handed}
-use Rattle.stream.specs.declared.OpenAnswer.{OpenAnswer}
+use Rattle.stream.specs.Answers.{OpenAnswer}
 use Rattle.stream.specs.Promises.{state_of, Opens}
 use Rattle.claims.specs.Demands.{Answered}
 use Rattle.claims.specs.CallsInRow.{InRow}

@@ -2,11 +2,24 @@
 use Rattle.std.specs.Prelude.{ℕ, List}
 use Rattle.tables.specs.declared.Catalogue.{Catalogue}
 use Rattle.stream.specs.declared.StreamRecord.{StreamRecord}
-use Rattle.stream.specs.declared.StepAnswer.{StepAnswer}
 use Rattle.stream.specs.declared.HoldingRecord.{HoldingRecord}
-use Rattle.stream.specs.declared.HoldingStepAnswer.{HoldingStepAnswer}
+use Rattle.stream.specs.Answers.{Answer, StepAnswer, HoldingStepAnswer, answer_in, key_in}
 use Rattle.stream.specs.Promises.{Steps, StepsHolding}
-use Rattle.harbour.specs.declared.NextAnswer.{NextAnswer}
+use Rattle.keys.specs.declared.Key.{Key}
+use Rattle.harbour.specs.declared.NextAnswer as code
+
+-- What the thin call answers: the answer, the key of a set (else that of no row), its trials, row tests and looks.
+pub record NextAnswer : Type 0 where
+  pub answer : Answer
+  pub key : Key
+  pub trials : ℕ
+  pub tests : ℕ
+  pub looks : ℕ
+
+-- That of the code's answer.
+abbrev pub next_answer_of : code.NextAnswer → NextAnswer
+next_answer_of r =
+    record { answer = answer_in r.answer; key = key_in r.answer; trials = r.counts.trials; tests = r.counts.tests; looks = r.counts.looks }
 
 -- What the thin call answered, with the record as the call left it, is what the by-value call answers.
 abbrev pub with_record : NextAnswer → StreamRecord → StepAnswer

@@ -2,8 +2,7 @@
 
 // The program `holding TABLE ROW`: reads an image from standard input and prints those of the row sets of its tables that hold one row.
 // Tables are numbered from 0, the rows of a table from 1. Wrong arguments are told on standard error, and nothing is read or printed.
-use lines::Word;
-use lister::{Got, Scope};
+use lister::{Row, Scope};
 
 // Lists what is asked for of the input, in cells and a store of its own.
 fn list(rt: &HostRuntime, scope: Scope, input: &[u8]) {
@@ -18,12 +17,10 @@ fn list(rt: &HostRuntime, scope: Scope, input: &[u8]) {
 }
 
 // Reads standard input and lists the sets that hold a row of it as an image.
-fn list_row(rt: &HostRuntime, table: u64, row: u64) {
+fn list_row(rt: &HostRuntime, asked: Row) {
     let mut input = [0u8; 65537];
-    let got = lister::read_input(rt, &mut input);
-    match got {
-        Got::Bytes(n) => list(rt, Scope::With(table as usize, row as usize), &input[..n]),
-        Got::Failed => {}
+    if let Some(n) = lister::read_input(rt, &mut input) {
+        list(rt, Scope::With(asked), &input[..n]);
     }
 }
 
@@ -32,27 +29,20 @@ fn usage(rt: &HostRuntime) {
     teller::say(rt, b"usage: holding TABLE ROW\n");
 }
 
-// An argument as a number.
-// One that is missing, or longer than any number in decimal digits need be, comes as no byte at all.
-fn number(rt: &HostRuntime, i: usize) -> Word {
-    let mut word = [0u8; 64];
-    let n = teller::arg(rt, i, &mut word);
-    lines::read_decimal(&word[..n])
-}
-
 // Lists the sets that hold the row that the two arguments name.
 fn main(rt: HostRuntime) {
     if teller::arg_count(&rt) != 3 {
         usage(&rt);
         return;
     }
-    let table = number(&rt, 1);
-    let row = number(&rt, 2);
-    match table {
-        Word::Number(t) => match row {
-            Word::Number(r) => list_row(&rt, t, r),
-            Word::Other => usage(&rt),
-        },
-        Word::Other => usage(&rt),
+    match (teller::number(&rt, 1), teller::number(&rt, 2)) {
+        (Some(table), Some(row)) => {
+            let asked = Row {
+                table: table as usize,
+                row: row as usize,
+            };
+            list_row(&rt, asked);
+        }
+        _ => usage(&rt),
     }
 }

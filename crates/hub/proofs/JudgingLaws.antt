@@ -1,19 +1,23 @@
 -- What the code goes by: the verdict on the listed words, step by step as the check takes them. Assumes nothing.
-use Prim.Native.Nat.{ℕ, zero, suc, ◌+◌, ◌≤◌, ◌<◌}
+use Prim.Native.Nat.{ℕ, zero, suc, ◌+◌, ◌^◌, ◌≤◌, ◌<◌}
 use native.Mathlib.Omega.{arith}
 use native.Mathlib.Nat.{not-suc-le-zero}
 use native.Mathlib.Numerals.{add-one}
-use mathlib.Core.Path.{◌≡◌, refl, sym, ap, subst, ◌∙◌}
+use mathlib.Core.Path.{◌≡◌, refl, sym, ap, ap₂, subst, ◌∙◌}
 use mathlib.Core.Logic.{◌⊎◌, inl, inr, ⊎_elim}
 use mathlib.Core.Bool.{true, false, cond}
 use mathlib.Core.List.{List, [], ◌∷◌, ◌++◌, Memᴰ}
 use lib.ListN.{length, get_or, drop}
 use lib.Seq.{drop-cons, drop-length}
-use Rattle.laws.specs.Tests.{all}
-use Rattle.laws.proofs.TestLaws.{which, clash, iff-eq, not_yes, any_of, lowest-none, lowest-at}
+use lib.Dec.{eqb}
+use borrow.Author.Tests.{eqb-true, eq-eqb}
+use Rattle.laws.specs.Tests.{all, lowest, without, lowest_below}
+use Rattle.laws.proofs.TestLaws.{which, clash, iff-eq, not_yes, any_of, FirstBelow, first_below, lowest-at}
 use Rattle.laws.proofs.MemberLaws.{mem-at, at_mem}
 use Rattle.keys.specs.Keys.{bits_per_row, row_of, key_of}
-use Rattle.keys.specs.TwoWords.{key_with}
+use Rattle.keys.specs.TwoWords.{bits_per_word, number_of, key_with}
+use Rattle.keys.specs.declared.Key as keys
+use Rattle.keys.proofs.TwoWordLaws.{key-low, key-high}
 use Rattle.keys.proofs.SetLaws.{in-at, in_some}
 use Rattle.tables.specs.declared.Catalogue.{Catalogue}
 use Rattle.tables.specs.Catalogues.{total}
@@ -22,7 +26,7 @@ use Rattle.disjunction.specs.Sets.{at, Maximal}
 use Rattle.disjunction.specs.Rule.{Grown, row_in, rows, row_at, member, extension, alone, trial}
 use Rattle.disjunction.specs.Standing.{gives_back, standing}
 use Rattle.disjunction.proofs.RowTests.{member-iff}
-use Rattle.disjunction.proofs.RowOrder.{in_rows, row_at-row}
+use Rattle.disjunction.proofs.RowOrder.{row_at-row}
 use Rattle.disjunction.proofs.Completeness.{trial-maximal}
 use Rattle.disjunction.proofs.StandingLaws.{valid-iff, gives-iff, maximal-back, standing-iff}
 use Rattle.rows.specs.World.{world_of, set_of}
@@ -30,14 +34,13 @@ use Rattle.rows.specs.Named.{named, Named}
 use Rattle.rows.proofs.WorldLaws.{world-symmetric, rows-total}
 use Rattle.rows.proofs.NamedLaws.{named-iff, named-valid, named-key, valid-named}
 use Rattle.store.specs.Good.{Key}
-use Rattle.walks.specs.Firsts.{FirstIn}
 use Rattle.sets.specs.Promises.{Comes}
-use Rattle.hub.specs.declared.ListVerdict.TheVariants.{Right, Missing, Refused}
-use Rattle.hub.specs.Verdicts.{right, entry, missing, listed, seek, spoilt, tried, tried_on, reached, verdict, Sound}
+use Rattle.hub.specs.Answers.{Right, Missing, Refused}
+use Rattle.hub.specs.Verdicts.{Verdict, right, entry, missing, listed, seek, spoilt, tried, tried_on, reached, verdict, Sound}
 use Rattle.hub.specs.Promises.{word_set, word_sets, answer_of, refused_or, checked}
-use Rattle.hub.specs.Searching.{among, out_of}
-use Rattle.hub.proofs.VerdictLaws.{listed-iff, seek-cases, tried-from, empty-none, empty-some, reached-maximal, spoilt-iff, good-sound}
-use Rattle.hub.proofs.KeyVerdicts.{named-word, sets-length, sets-at, among-iff, maximal-named, maximal-key, spoilt-key, listed-key}
+use Rattle.hub.specs.Searching.{among}
+use Rattle.hub.proofs.VerdictLaws.{listed-iff, seek-cases, empty-none, empty-some, spoilt-iff, good-sound}
+use Rattle.hub.proofs.KeyVerdicts.{right-said, named-word, sets-length, sets-at, among-iff, maximal-named, maximal-key, spoilt-key, listed-key}
 
 -- ---- the sets that are not listed
 
@@ -69,6 +72,12 @@ seek-there l (T ∷ a) b U e = by (which (listed l T)) (seek-there l a b U)
     by (inl y) ih = rw y (ih (rw y at e))
     by (inr n) ih = rw n (rw n at e)
 
+-- ---- keys
+
+-- A key is its number's.
+pub number-whole : (key : keys.Key) → key.high < 2 ^ bits_per_word → key_with (number_of key) ≡ key
+number-whole key h = ap₂ (λ (x y : ℕ). record { low = x; high = y }) (sym (key-low key h)) (sym (key-high key h))
+
 -- ---- the refusals
 
 module _ (cat : Catalogue) (cells words : List ℕ) where
@@ -98,17 +107,15 @@ module _ (cat : Catalogue) (cells : List ℕ) (lent : ℕ) (L : Lawful cat lent)
         ≡ trial (world_of cat cells) (set_of cat key) (record { table = t; row = row_of bits_per_row key t })
     own = ap (λ (r : ℕ). trial (world_of cat cells) (set_of cat key) (record { table = t; row = r })) (in-at bits_per_row cat.n key t l)
 
-    pub gives_same : to ≡ key → gives_back (world_of cat cells) (set_of cat key) t ≡ true
-    gives_same e =
-        (gives-iff (world_of cat cells) (set_of cat key) t).1
-        (λ m. ap (λ (x : Grown). x.rows) own ∙ sym g.rows ∙ ap (set_of cat) e)
-
-    pub gives_other : 0 < row_of bits_per_row key t → (to ≡ key → ⊥) → gives_back (world_of cat cells) (set_of cat key) t ≡ false
-    gives_other p n =
-        not_yes (gives_back (world_of cat cells) (set_of cat key) t)
+    pub gives-tried : 0 < row_of bits_per_row key t → gives_back (world_of cat cells) (set_of cat key) t ≡ eqb to key
+    gives-tried p =
+        iff-eq (gives_back (world_of cat cells) (set_of cat key) t) (eqb to key)
         (λ y.
         let e = (gives-iff (world_of cat cells) (set_of cat key) t).0 y (rw (in-at bits_per_row cat.n key t l) p) in
-        n (g.key ∙ ap (key_of bits_per_row) (sym (ap (λ (x : Grown). x.rows) own) ∙ e) ∙ named-key cat cells key N))
+        eq-eqb to key (g.key ∙ ap (key_of bits_per_row) (sym (ap (λ (x : Grown). x.rows) own) ∙ e) ∙ named-key cat cells key N))
+        (λ y.
+        (gives-iff (world_of cat cells) (set_of cat key) t).1
+        (λ m. ap (λ (x : Grown). x.rows) own ∙ sym g.rows ∙ ap (set_of cat) (eqb-true to key y)))
 
   -- A word that names no set is no maximal set; of another, the trials of its own rows decide.
   pub lost-standing : (word : ℕ) → named cat word ≡ false → standing (world_of cat cells) (word_set cat word) ≡ false
@@ -143,16 +150,6 @@ module _ (cat : Catalogue) (cells : List ℕ) (lent : ℕ) (L : Lawful cat lent)
       ∙ ap (key_of bits_per_row) (sym (maximal-back (world_of cat cells) (world-symmetric cat cells) (set_of cat key) x t (omega arith)))
       ∙ ap (λ (z : ℕ). key_of bits_per_row (trial (world_of cat cells) (set_of cat key) (record { table = t; row = z })).rows) q
 
-  -- Among maximal sets, 0 tells that all are listed.
-  out_none : (l k : List (List ℕ)) → ((U : List ℕ) → Memᴰ U k → Maximal (world_of cat cells) U) → out_of (seek l k) ≡ 0 → seek l k ≡ right
-  out_none l k f e = ⊎_elim (λ y. y) (λ (U, q, m). absurd (some U q (f U m))) (seek-cases l k)
-    where
-      some : (U : List ℕ) → seek l k ≡ missing U → Maximal (world_of cat cells) U → ⊥
-      some U q y =
-          let (t, h) = y.jcc.some in
-          let z : key_of bits_per_row U ≡ 0 = sym (ap out_of q) ∙ e in
-          absurd (omega (arith, z, (valid-named cat cells lent L U y.jcc.valid t h).some))
-
   -- ---- the empty list
 
   pub none_right : total cat ≡ 0 → answer_of (verdict (world_of cat cells) []) ≡ Right
@@ -185,20 +182,25 @@ module _ (cat : Catalogue) (cells : List ℕ) (lent : ℕ) (L : Lawful cat lent)
         x = (standing-iff (world_of cat cells) (world-symmetric cat cells) (word_set cat (get_or words i 0))).0 y
 
     -- The first entry that is spoilt is the verdict;
-    pub judged-entry : (r : ℕ) → FirstIn (length words) (spoilt (world_of cat cells) sets) r → r < length words → verdict (world_of cat cells) sets ≡ entry r
+    pub judged-entry : (i : ℕ) → lowest i ≡ lowest_below (length words) (spoilt (world_of cat cells) sets) → verdict (world_of cat cells) sets ≡ entry i
     unfolding verdict
-    judged-entry r f l =
-        rw (lowest-at (length sets) (spoilt (world_of cat cells) sets) r (rw sets-length l) (f.found l) f.before)
+    judged-entry i e = rw (sets-length cat words, ← e)
 
     -- where there is none, what is reached decides,
-    pub judged-rest : FirstIn (length words) (spoilt (world_of cat cells) sets) (length words)
+    judged-rest : without ≡ lowest_below (length words) (spoilt (world_of cat cells) sets)
         → verdict (world_of cat cells) sets ≡ seek sets (reached (world_of cat cells) sets)
     unfolding verdict
-    judged-rest f = rw (lowest-none (length sets) (spoilt (world_of cat cells) sets) (λ u l. f.before u (rw (sets-length cat words) at l)))
+    judged-rest e = rw (sets-length cat words, ← e)
 
     -- and every entry is good.
-    pub judged-sound : FirstIn (length words) (spoilt (world_of cat cells) sets) (length words) → Sound (world_of cat cells) sets
-    judged-sound f = good-sound (world_of cat cells) (world-symmetric cat cells) sets (λ u l. f.before u (rw (sets-length cat words) at l))
+    pub judged-sound : without ≡ lowest_below (length words) (spoilt (world_of cat cells) sets) → Sound (world_of cat cells) sets
+    judged-sound e =
+        good-sound (world_of cat cells) (world-symmetric cat cells) sets
+        (λ u l. by (first_below (length words) (spoilt (world_of cat cells) sets)) u (rw (sets-length cat words) at l))
+      where
+        by : FirstBelow (length words) (spoilt (world_of cat cells) sets) → (u : ℕ) → u < length words → spoilt (world_of cat cells) sets u ≡ false
+        by (inl (t, l, y, n)) u b = let f = lowest-at (length words) (spoilt (world_of cat cells) sets) t l y n in let z : ◌≡◌ {A = ℕ} 0 1 = cc in absurd (omega arith)
+        by (inr n) u b = n u b
 
     -- An entry's set is maximal, and its word names it.
     pub entry-maximal : Sound (world_of cat cells) sets → (i : ℕ) → i < length words → Maximal (world_of cat cells) (word_set cat (get_or words i 0))
@@ -255,12 +257,13 @@ module _ (cat : Catalogue) (cells : List ℕ) (lent : ℕ) (L : Lawful cat lent)
           ap (seek sets) (tried-cons j l)
           ∙ seek-on sets (at_row j) (from (j + 1)) (listed-among (at_row j) (row-maximal j l) ∙ ap (among words (length words)) (sym e) ∙ a)
 
-      pub tries-out : (j to : ℕ) → j < total cat → to ≡ key_of bits_per_row (at_row j) → among words (length words) to ≡ false → out_of (seek sets (from j)) ≡ to
+      pub tries-out : (j to : ℕ) → j < total cat → to ≡ key_of bits_per_row (at_row j) → among words (length words) to ≡ false
+          → answer_of (seek sets (from j)) ≡ Missing (key_with to)
       tries-out j to l e a =
-          ap out_of
+          ap answer_of
           (ap (seek sets) (tried-cons j l)
           ∙ seek-out sets (at_row j) (from (j + 1)) (listed-among (at_row j) (row-maximal j l) ∙ ap (among words (length words)) (sym e) ∙ a))
-          ∙ sym e
+          ∙ ap (λ (z : ℕ). Missing (key_with z)) (sym e)
 
       pub tries-end : (j : ℕ) → total cat ≤ j → j ≤ total cat → seek sets (from j) ≡ right
       unfolding tried seek
@@ -268,24 +271,18 @@ module _ (cat : Catalogue) (cells : List ℕ) (lent : ℕ) (L : Lawful cat lent)
           let e : j ≡ length (rows (world_of cat cells)) = omega (arith, rows-total cat cells) in
           rw (e, drop-length (rows (world_of cat cells)))
 
-      -- What the trials on it come to: no set outside the list exactly where the answer is 0.
-      tried-right : out_of (seek sets (from 0)) ≡ 0 → seek sets (from 0) ≡ right
-      tried-right =
-          out_none sets (from 0)
-          (λ U m.
-          let (p, k, f) = tried-from (world_of cat cells) T (rows (world_of cat cells)) U m in
-          rw f (trial-maximal (world_of cat cells) (world-symmetric cat cells) T p x.jcc (in_rows (world_of cat cells) p k)))
-
-      pub entry-on : (k : List (List ℕ)) → out_of (seek sets (from 0)) ≡ 0 → seek sets (tried_on (world_of cat cells) (T ∷ k)) ≡ seek sets (tried_on (world_of cat cells) k)
+      -- Where they leave the list nowhere, the later entries decide; else the set that they leave it for is named.
+      pub entry-on : (k : List (List ℕ)) → answer_of (seek sets (from 0)) ≡ Right
+          → seek sets (tried_on (world_of cat cells) (T ∷ k)) ≡ seek sets (tried_on (world_of cat cells) k)
       unfolding tried_on
-      entry-on k e = seek-past sets (from 0) (tried_on (world_of cat cells) k) (tried-right e)
+      entry-on k e = seek-past sets (from 0) (tried_on (world_of cat cells) k) (right-said (seek sets (from 0)) e)
 
-      pub entry-out : (k : List (List ℕ)) → (out_of (seek sets (from 0)) ≡ 0 → ⊥)
-          → out_of (seek sets (tried_on (world_of cat cells) (T ∷ k))) ≡ out_of (seek sets (from 0))
+      pub entry-out : (k : List (List ℕ)) (key : keys.Key) → answer_of (seek sets (from 0)) ≡ Missing key
+          → answer_of (seek sets (tried_on (world_of cat cells) (T ∷ k))) ≡ Missing key
       unfolding tried_on
-      entry-out k n =
-          ⊎_elim (λ y. absurd (n (ap out_of y)))
-          (λ (U, q, m). ap out_of (seek-there sets (from 0) (tried_on (world_of cat cells) k) U q ∙ sym q))
+      entry-out k key e =
+          ⊎_elim (λ y. absurd (let f : Right ≡ Missing key = sym (ap answer_of y) ∙ e in let z : ◌≡◌ {A = ℕ} 0 1 = cc in omega arith))
+          (λ (U, q, m). ap answer_of (seek-there sets (from 0) (tried_on (world_of cat cells) k) U q ∙ sym q) ∙ e)
           (seek-cases sets (from 0))
 
     -- ---- the trials on all of them
@@ -311,8 +308,8 @@ module _ (cat : Catalogue) (cells : List ℕ) (lent : ℕ) (L : Lawful cat lent)
       later i = tried_on (world_of cat cells) (drop i sets)
 
       -- What the trials on entry i come to.
-      abbrev here : ℕ → ℕ
-      here i = out_of (seek sets (tried (world_of cat cells) (set_of cat (get_or words i 0)) (rows (world_of cat cells))))
+      abbrev here : ℕ → Verdict
+      here i = seek sets (tried (world_of cat cells) (set_of cat (get_or words i 0)) (rows (world_of cat cells)))
 
       later-cons : (i : ℕ) → i < length words → drop i sets ≡ set_of cat (get_or words i 0) ∷ drop (i + 1) sets
       later-cons i l =
@@ -323,15 +320,15 @@ module _ (cat : Catalogue) (cells : List ℕ) (lent : ℕ) (L : Lawful cat lent)
       pub set-maximal : (i : ℕ) → i < length words → Maximal (world_of cat cells) (set_of cat (get_or words i 0))
       set-maximal i l = subst (Maximal (world_of cat cells)) (entry_set s i l) (entry-maximal s i l)
 
-      pub missing-on : (i : ℕ) → i < length words → here i ≡ 0 → seek sets (later i) ≡ seek sets (later (i + 1))
+      pub missing-on : (i : ℕ) → i < length words → answer_of (here i) ≡ Right → seek sets (later i) ≡ seek sets (later (i + 1))
       missing-on i l e =
           ap (λ (k : List (List ℕ)). seek sets (tried_on (world_of cat cells) k)) (later-cons i l)
           ∙ entry-on s (set_of cat (get_or words i 0)) (set-maximal i l) (drop (i + 1) sets) e
 
-      pub missing-out : (i : ℕ) → i < length words → (here i ≡ 0 → ⊥) → out_of (seek sets (later i)) ≡ here i
-      missing-out i l n =
-          ap (λ (k : List (List ℕ)). out_of (seek sets (tried_on (world_of cat cells) k))) (later-cons i l)
-          ∙ entry-out s (set_of cat (get_or words i 0)) (set-maximal i l) (drop (i + 1) sets) n
+      pub missing-out : (i : ℕ) (key : keys.Key) → i < length words → answer_of (here i) ≡ Missing key → answer_of (seek sets (later i)) ≡ Missing key
+      missing-out i key l e =
+          ap (λ (k : List (List ℕ)). answer_of (seek sets (tried_on (world_of cat cells) k))) (later-cons i l)
+          ∙ entry-out s (set_of cat (get_or words i 0)) (set-maximal i l) (drop (i + 1) sets) key e
 
       pub missing-end : (i : ℕ) → length words ≤ i → i ≤ length words → seek sets (later i) ≡ right
       unfolding tried_on seek
@@ -339,21 +336,7 @@ module _ (cat : Catalogue) (cells : List ℕ) (lent : ℕ) (L : Lawful cat lent)
           let e : i ≡ length sets = omega (arith, sets-length cat words) in
           rw (e, drop-length sets)
 
-      -- The whole verdict, by what the trials come to.
-      module _ (h : 0 < length words) (v : verdict (world_of cat cells) sets ≡ seek sets (reached (world_of cat cells) sets)) where
-        rest : verdict (world_of cat cells) sets ≡ seek sets (tried_on (world_of cat cells) sets)
-        rest = v ∙ ap (seek sets) (some-reached h)
-
-        pub judged-right : out_of (seek sets (tried_on (world_of cat cells) sets)) ≡ 0 → answer_of (verdict (world_of cat cells) sets) ≡ Right
-        judged-right e =
-            ap answer_of
-            (rest
-            ∙ out_none sets (tried_on (world_of cat cells) sets)
-            (λ U m. reached-maximal (world_of cat cells) (world-symmetric cat cells) sets s U (rw (some-reached h) m)) e)
-
-        pub judged-missing : (k : ℕ) → k ≡ out_of (seek sets (tried_on (world_of cat cells) sets)) → (k ≡ 0 → ⊥) → answer_of (verdict (world_of cat cells) sets) ≡ Missing (key_with k)
-        judged-missing k e n =
-            ⊎_elim
-            (λ y. absurd (n (e ∙ ap out_of y)))
-            (λ (U, q, m). ap answer_of (rest ∙ q) ∙ ap (λ (z : ℕ). Missing (key_with z)) (sym (e ∙ ap out_of q)))
-            (seek-cases sets (tried_on (world_of cat cells) sets))
+    -- The whole verdict, by what the trials come to.
+    pub judged-trials : 0 < length words → without ≡ lowest_below (length words) (spoilt (world_of cat cells) sets)
+        → verdict (world_of cat cells) sets ≡ seek sets (tried_on (world_of cat cells) sets)
+    judged-trials h e = judged-rest e ∙ ap (seek sets) (some-reached h)

@@ -27,8 +27,7 @@ use Rattle.rows.specs.World.{world_of, set_of}
 use Rattle.rows.specs.Named.{named}
 use Rattle.rows.proofs.WorldLaws.{world-symmetric}
 use Rattle.rows.proofs.NamedLaws.{named-iff, named-zero, named-key, valid-set, valid-named}
-use Rattle.hub.specs.declared.ListVerdict.{ListVerdict}
-use Rattle.hub.specs.declared.ListVerdict.TheVariants.{Right, Entry, Missing, Refused}
+use Rattle.hub.specs.Answers.{ListVerdict, Right, Entry, Missing, Refused}
 use Rattle.hub.specs.Verdicts.{Verdict, right, entry, missing, FirstOut, Spoilt, reached, verdict, Sound}
 use Rattle.hub.specs.Promises.{word_set, word_sets, answer_of, MaximalKey, SpoiltKey, SoundKeys, RightKeys, FirstOutKey}
 use Rattle.hub.specs.Searching.{among}
@@ -58,6 +57,12 @@ among-iff words k word = (
   λ h. let (j, b, e) = any_some k (λ j. eqb (get_or words j 0) word) h in (j, b, eqb-true (get_or words j 0) word e),
   λ (j, b, e). any_of k (λ j. eqb (get_or words j 0) word) j b (eq-eqb (get_or words j 0) word e),
 )
+
+-- The answer tells the verdict.
+pub right-said : (v : Verdict) → answer_of v ≡ Right → v ≡ right
+right-said right e = refl
+right-said (entry i) e = absurd (let z : ◌≡◌ {A = ℕ} 0 1 = cc in omega arith)
+right-said (missing T) e = absurd (let z : ◌≡◌ {A = ℕ} 0 1 = cc in omega arith)
 
 module _ (cat : Catalogue) (cells : List ℕ) (lent : ℕ) (L : Lawful cat lent) where
   S : Symmetric (world_of cat cells)
@@ -171,11 +176,6 @@ module _ (cat : Catalogue) (cells : List ℕ) (lent : ℕ) (L : Lawful cat lent)
     Says v = answer_of (verdict (world_of cat cells) sets) ≡ v
 
     -- The answer tells the verdict.
-    right-said : (v : Verdict) → answer_of v ≡ Right → v ≡ right
-    right-said right e = refl
-    right-said (entry i) e = absurd (let z : ◌≡◌ {A = ℕ} 0 1 = cc in omega arith)
-    right-said (missing T) e = absurd (let z : ◌≡◌ {A = ℕ} 0 1 = cc in omega arith)
-
     entry-said : (v : Verdict) (i : ℕ) → answer_of v ≡ Entry i → v ≡ entry i
     entry-said right i e = absurd (let z : ◌≡◌ {A = ℕ} 0 1 = cc in omega arith)
     entry-said (entry j) i e = let q : j ≡ i = cc in ap entry q

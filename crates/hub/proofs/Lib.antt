@@ -1,3 +1,4 @@
+pub mod RangeLaws
 pub mod VerdictLaws
 pub mod KeyVerdicts
 pub mod TreeLaws

@@ -1,29 +1,33 @@
 -- The search tree over the listed keys: what a search of it says, and that it grows by one link for each new key. The keys are its own already, and
 -- the links of records that are not used yet are 0, so that a record added to the store is a link more and nothing else. Assumes nothing.
-use Prim.Native.Nat.{ℕ, ◌+◌, ◌*◌, ◌≤◌, ◌<◌, min}
+use Prim.Native.Nat.{ℕ, ◌+◌, ◌-◌, ◌*◌, ◌≤◌, ◌<◌, min}
 use native.Mathlib.Omega.{arith}
 use native.Mathlib.Nat.{eq-or-lt_of_le, not-suc-le-zero}
 use native.Mathlib.Decide.{dec_lt}
 use mathlib.Core.Path.{◌≡◌, refl, sym, ap, ap₂, subst, ◌∙◌}
-use mathlib.Core.Logic.{⊎_elim, ◌↔◌}
+use mathlib.Core.Logic.{⊎_elim, ◌↔◌, ∥∥₁_elim}
+use Rattle.std.proofs.Math.Bool.{Bool-set}
 use mathlib.Core.Bool.{Bool, true, false, not}
 use mathlib.Core.List.{List}
 use lib.ListN.{length, get_or, set, replicate, length-set, length-replicate, get_or-replicate, get_or-eq_default}
 use lib.Seq.{get_or-set_other, set-get_or}
-use Rattle.laws.proofs.TestLaws.{not_yes, clash}
+use lib.Dec.{eqb}
+use Rattle.std.specs.List.{range_with_len, list_any}
+use Rattle.laws.specs.Tests.{any}
+use Rattle.laws.proofs.TestLaws.{not_yes}
 use Rattle.laws.proofs.ListLaws.{length-tab, tab-at}
 use Rattle.words.specs.Words.{bit_of}
 use Rattle.keys.specs.Keys.{bits_per_row}
 use Rattle.keys.specs.TwoWords.{number_in}
 use Rattle.store.specs.Store.{Store, store_in, key_at, most_records, room_in, link_of, search_of, filed, named, added, Hangs}
 use Rattle.store.specs.Good.{link_at, GoodStore, Stored}
-use Rattle.store.specs.declared.Looked.{Looked}
-use Rattle.store.specs.declared.Looked.TheVariants.{Found, Absent, Damaged}
+use Rattle.store.specs.Looks.{Looked, Found, Absent, Damaged}
 use Rattle.store.proofs.Tree.{Grown}
 use Rattle.store.proofs.StoreLaws.{Offered, offered, started, absent-place, filed-key, added-cells, alike-good}
 use Rattle.hub.specs.Promises.{listed_keys}
-use Rattle.hub.specs.Searching.{among, Low, Linked, records_of, Enters}
+use Rattle.hub.specs.Searching.{among, Low, Linked, records_of}
 use Rattle.hub.proofs.KeyVerdicts.{among-iff}
+use Rattle.hub.proofs.RangeLaws.{any-range}
 
 -- What a search says of the first k keys.
 abbrev pub Tells : List ℕ → ℕ → ℕ → Looked → Type 0
@@ -40,6 +44,11 @@ pub keys-at : (low high : List ℕ) (i : ℕ) → i < length (listed_keys low hi
 unfolding listed_keys
 keys-at low high i l =
     tab-at (min (length low) (length high)) (λ i. number_in (get_or low i 0) (get_or high i 0)) i (omega (arith, keys_length low high))
+
+-- An entry's own key.
+pub key-own : (low high : List ℕ) (i : ℕ) {k : ℕ} → i < length (listed_keys low high) → k ≡ number_in (get_or low i 0) (get_or high i 0)
+    → k ≡ get_or (listed_keys low high) i 0
+key-own low high i b e = e ∙ sym (keys-at low high i b)
 
 -- A listed key has both its words.
 pub keys-both : (low high : List ℕ) (i : ℕ) → i < length (listed_keys low high) → (i < length low) × (i < length high)
@@ -59,9 +68,16 @@ module _ (n : ℕ) (low high left right : List ℕ) where
     λ (j, b, e). (j, b, sym (keys-at low high j (omega arith)) ∙ e),
   )
 
-  pub tree-tells : (k word : ℕ) → Linked n low high left right k → 0 < k → k ≤ length words → Low n word
+  tells-one : (k word : ℕ) (a : Looked) → IsProp (Tells words k word a)
+  tells-one k word (Found p looks) = Bool-set (among words k word) true
+  tells-one k word (Absent p s looks) = Bool-set (among words k word) false
+  tells-one k word (Damaged looks) = λ x y. absurd x
+
+  pub tree-tells : (k word : ℕ) → ∥ Linked n low high left right k ∥₁ → 0 < k → k ≤ length words → Low n word
       → Tells words k word (search_of (tree k) word (bits_per_row * n))
-  tree-tells k word l p h g = by (search_of (tree k) word (bits_per_row * n)) (offered bits_per_row n (tree k) (l.good p) word g)
+  tree-tells k word t p h g =
+      ∥∥₁_elim t (tells-one k word (search_of (tree k) word (bits_per_row * n)))
+      (λ l. by (search_of (tree k) word (bits_per_row * n)) (offered bits_per_row n (tree k) (l.good p) word g))
     where
       by : (a : Looked) → Offered bits_per_row n (tree k) word a → Tells words k word a
       by (Found q looks) e = (among-iff words k word).1 ((stored-among k word h).0 e)
@@ -186,12 +202,13 @@ linked-start n low high =
 pub among_none : (words : List ℕ) (word : ℕ) → among words 0 word ≡ false
 among_none words word = not_yes (among words 0 word) (λ y. let (j, b, e) = (among-iff words 0 word).0 y in not-suc-le-zero b)
 
-pub among_next : (words : List ℕ) (i word : ℕ) → among words i word ≡ false → (get_or words i 0 ≡ word → ⊥) → among words (i + 1) word ≡ false
-among_next words i word f n =
-    not_yes (among words (i + 1) word)
-    (λ y.
-    let (j, b, e) = (among-iff words (i + 1) word).0 y in
-    ⊎_elim (λ (q : j ≡ i). n (rw q at e)) (λ (l : j < i). clash ((among-iff words i word).1 (j, l, e)) f) (eq-or-lt_of_le (omega arith)))
+-- A look at each of them.
+pub among-late : (words : List ℕ) (from to word : ℕ) → from ≤ to → among words from word ≡ false
+    → list_any (λ j. eqb (get_or words j 0) word) (range_with_len from (to - from)) ≡ among words to word
+unfolding among
+among-late words from to word h f =
+    let e : from + (to - from) ≡ to = omega arith in
+    any-range (λ j. eqb (get_or words j 0) word) (to - from) from f ∙ ap (λ (k : ℕ). any k (λ j. eqb (get_or words j 0) word)) e
 
 -- What is among fewer keys is among more.
 pub among-more : (words : List ℕ) (j k word : ℕ) → j ≤ k → among words j word ≡ true → among words k word ≡ true
@@ -204,13 +221,11 @@ module _ (n : ℕ) (low high left right : List ℕ) (i : ℕ) (l : Linked n low 
   abbrev listed : List ℕ
   listed = listed_keys low high
 
-  -- The first is new,
-  pub enters-first : i ≡ 0 → Enters n low high i false left right
+  -- The first needs no link,
+  pub enters-first : i ≡ 0 → Linked n low high left right (records_of (i + 1))
   enters-first e =
-      record {
-        repeats = sym (subst (λ (k : ℕ). among listed k (get_or listed i 0) ≡ false) (sym e) (among_none listed (get_or listed i 0)));
-        linked = λ q. subst (Linked n low high left right) (sym one) (linked-first n low high left right (subst (Linked n low high left right) none l) (omega arith) (subst (λ (k : ℕ). Low n (get_or listed k 0)) e g));
-      }
+      subst (Linked n low high left right) (sym one)
+      (linked-first n low high left right (subst (Linked n low high left right) none l) (omega arith) (subst (λ (k : ℕ). Low n (get_or listed k 0)) e g))
     where
       one : records_of (i + 1) ≡ 1
       one = omega arith
@@ -218,31 +233,16 @@ module _ (n : ℕ) (low high left right : List ℕ) (i : ℕ) (l : Linked n low 
       none : records_of i ≡ 0
       none = omega arith
 
-  -- one past the last record has none,
-  pub enters-late : (r : Bool) → most_records ≤ i → r ≡ among listed i (get_or listed i 0) → Enters n low high i r left right
-  enters-late r h e =
-      let q : records_of i ≡ records_of (i + 1) = omega arith in record { repeats = e; linked = λ f. subst (Linked n low high left right) q l }
+  -- one past the last record gets none,
+  pub enters-late : most_records ≤ i → Linked n low high left right (records_of (i + 1))
+  enters-late h = let q : records_of i ≡ records_of (i + 1) = omega arith in subst (Linked n low high left right) q l
 
-  -- and of another the search tells.
-  module _ (p : 0 < i) (m : i < most_records) where
-    earlier : Linked n low high left right i
-    earlier = let q : records_of i ≡ i = omega arith in subst (Linked n low high left right) q l
-
-    tells : (a : Looked) → a ≡ search_of (store_in low high left right i) (get_or listed i 0) (bits_per_row * n) → Tells listed i (get_or listed i 0) a
-    tells a e = subst (Tells listed i (get_or listed i 0)) (sym e) (tree-tells n low high left right i (get_or listed i 0) earlier p (omega (arith, b)) g)
-
-    pub enters-known : (q looks : ℕ) → Found q looks ≡ search_of (store_in low high left right i) (get_or listed i 0) (bits_per_row * n) → Enters n low high i true left right
-    enters-known q looks e = record { repeats = sym (tells (Found q looks) e); linked = λ f. absurd (clash refl f) }
-
-    pub enters-new : (q : ℕ) (s : Bool) (looks : ℕ) (left' right' : List ℕ)
-        → Absent q s looks ≡ search_of (store_in low high left right i) (get_or listed i 0) (bits_per_row * n)
-        → Hangs left right q s i left' right' → Enters n low high i false left' right'
-    enters-new q s looks left' right' e h =
-        let z : i + 1 ≡ records_of (i + 1) = omega arith in
-        record {
-          repeats = sym (tells (Absent q s looks) e);
-          linked = λ f. subst (Linked n low high left' right') z (linked-next n low high left right i q s looks left' right' earlier p b m g e h);
-        }
-
-    pub never-damaged : (looks : ℕ) → Damaged looks ≡ search_of (store_in low high left right i) (get_or listed i 0) (bits_per_row * n) → ⊥
-    never-damaged looks e = tells (Damaged looks) e
+  -- and another hangs at the empty link that a search for it ends at.
+  pub enters-new : 0 < i → i < most_records → (q : ℕ) (s : Bool) (looks : ℕ) (left' right' : List ℕ)
+      → Absent q s looks ≡ search_of (store_in low high left right (records_of i)) (get_or listed i 0) (bits_per_row * n)
+      → Hangs left right q s i left' right' → Linked n low high left' right' (records_of (i + 1))
+  enters-new p m q s looks left' right' e h =
+      let k : records_of i ≡ i = omega arith in
+      let z : i + 1 ≡ records_of (i + 1) = omega arith in
+      subst (Linked n low high left' right') z
+      (linked-next n low high left right i q s looks left' right' (subst (Linked n low high left right) k l) p b m g (rw k at e) h)

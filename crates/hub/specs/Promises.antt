@@ -11,8 +11,7 @@ use Rattle.tables.specs.Checks.{catalogue_fault}
 use Rattle.disjunction.specs.Sets.{Maximal}
 use Rattle.rows.specs.World.{world_of, set_of}
 use Rattle.rows.specs.Named.{named}
-use Rattle.hub.specs.declared.ListVerdict.{ListVerdict}
-use Rattle.hub.specs.declared.ListVerdict.TheVariants.{Right, Entry, Missing, Refused}
+use Rattle.hub.specs.Answers.{ListVerdict, Right, Entry, Missing, Refused}
 use Rattle.hub.specs.Verdicts.{Verdict, right, entry, missing, reached, verdict}
 
 -- The listed keys: "Words lie in two slices; the shortest slice counts" (#110).

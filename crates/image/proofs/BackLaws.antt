@@ -25,18 +25,12 @@ use Rattle.tables.specs.Checks.{outside, size_fault, tables_fault, Lawful}
 use Rattle.tables.proofs.CatalogueLaws.{cells-next}
 use Rattle.tables.proofs.CheckLaws.{fault_at, fault-counted, fault-clear, tables-none, tables_more, InRange, inside, size-good, shape-split}
 use Rattle.tables.proofs.StoredLaws.{stored-lawful}
-use Rattle.loader.specs.declared.Walk.TheVariants.{To}
-use Rattle.loader.specs.declared.Fault.{Fault}
-use Rattle.loader.specs.declared.Field.{Field}
-use Rattle.loader.specs.declared.Field.TheVariants.{Value, FieldFault}
-use Rattle.loader.specs.declared.Entry.{Entry}
-use Rattle.loader.specs.declared.Entry.TheVariants.{Table, TableFault}
-use Rattle.loader.specs.declared.Loaded.{Loaded}
+use Rattle.loader.specs.Faults.{To, Fault, Field, Value, FieldFault, Entry, Table, TableFault, Loaded}
 use Rattle.loader.specs.Reading.{refusal_at, run_end, codes, rows_from}
 use Rattle.loader.specs.Load.{first_table, field_at, on_field, table_at, on_entry, refused, tables_end, tables_from, scan_of, tables_codes}
 use Rattle.writer.specs.Write.{encodes, cells_of, tables_image, too_high, rows_fault, rows_refusal, cells_fault}
 use Rattle.image.specs.RoundTrip.{front, trimmed, found}
-use Rattle.loader.proofs.LoadLaws.{GoodTable, good-table, good-fault}
+use Rattle.loader.proofs.LoadLaws.{good-table, good-fault}
 use Rattle.writer.proofs.AcceptLaws.{cells-none, cells-more}
 use Rattle.loader.proofs.ReadingLaws.{number-was, run-was, run-add, rows-was, rows_run, row-cells}
 use Rattle.image.proofs.ThereLaws.{part-stands, one_byte, table-codes}

@@ -1,6 +1,6 @@
 -- The two round trips of the image format: loading what was written gives the same tables, and writing what was loaded gives the same bytes.
 -- Each is carried by its own file of laws, ThereLaws and BackLaws. Assumes nothing.
-use Prim.Native.Nat.{ℕ, zero, suc, ◌-◌, ◌<◌, ◌≤◌}
+use Prim.Native.Nat.{ℕ, zero, suc, ◌<◌, ◌≤◌}
 use native.Mathlib.Omega.{arith}
 use mathlib.Core.Path.{◌≡◌, refl, sym, ap, ◌∙◌}
 use mathlib.Core.List.{List, ◌++◌}
@@ -12,19 +12,16 @@ use Rattle.laws.proofs.ListLaws.{length-put}
 use Rattle.numbers.specs.Numbers.{encode}
 use Rattle.tables.specs.declared.Catalogue.{Catalogue}
 use Rattle.tables.specs.Sizes.{most_tables}
-use Rattle.tables.specs.Catalogues.{scheme_of, count_of, first_cell, touch, touching_below, touching_of, given, place_in, mask_in}
+use Rattle.tables.specs.Catalogues.{scheme_of, first_cell, touch, touching_below, touching_of, place_in, mask_in}
 use Rattle.tables.specs.Versions.{version_of}
 use Rattle.tables.specs.Checks.{first_met, catalogue_fault, Lawful}
 use Rattle.tables.proofs.CheckLaws.{first-none, first-clear, lawful-fault}
 use Rattle.tables.proofs.StoredLaws.{for-at}
-use Rattle.loader.specs.declared.Verdict.{Verdict}
-use Rattle.loader.specs.declared.Verdict.TheVariants.{Good}
-use Rattle.loader.specs.declared.Loaded.{Loaded}
-use Rattle.writer.specs.declared.Written.{Written}
-use Rattle.writer.specs.declared.Written.TheVariants.{Length}
+use Rattle.writer.specs.Written.{Written, Length}
+use Rattle.loader.specs.Faults.{Verdict, Good, Loaded}
 use Rattle.loader.specs.Load.{first_table, scan_of, tables_codes, cells_after, Loads}
 use Rattle.writer.specs.Write.{tables_image, image_of, cells_fault, write_fault, Accepted, length_fault, written_of, written, Writes}
-use Rattle.image.specs.RoundTrip.{front, trimmed, found, loaded_cells}
+use Rattle.image.specs.RoundTrip.{trimmed, found, loaded_cells}
 use Rattle.writer.proofs.AcceptLaws.{fault-accepted, accepted-fault}
 use Rattle.image.proofs.ThereLaws.{front_at, kept, count_kept, image-parts, scan-there, codes-there}
 use Rattle.image.proofs.BackLaws.{ScanBack, scan-back, tables-fit, tables-back}

@@ -5,7 +5,7 @@ use native.Mathlib.Decide.{dec_lt}
 use native.Mathlib.Omega.{arith}
 use native.Mathlib.Numerals.{add-one}
 use mathlib.Core.Path.{◌≡◌, refl, sym, ap, ◌∙◌}
-use mathlib.Core.Bool.{Bool, true, false, cond, ◌||◌}
+use mathlib.Core.Bool.{Bool, true, false, ◌||◌}
 use mathlib.Core.List.{List, [], ◌∷◌, ◌++◌, append_assoc, append-nil}
 use lib.ListN.{length, get_or, set, take, drop, replicate, length-append, length-drop, length-take, take-append-drop, get_or-append}
 use lib.Seq.{length-take-le, take-add, take_at, take-suc, set_at, drop_at, drop-drop}
@@ -17,7 +17,7 @@ use Rattle.laws.specs.Lists.{part}
 use Rattle.laws.proofs.ListLaws.{length_part, part-append}
 use Rattle.laws.proofs.TestLaws.{or-none}
 use Rattle.numbers.specs.Numbers.{encode, decode}
-use Rattle.numbers.specs.declared.Reading.TheVariants.{Number}
+use Rattle.numbers.specs.Readings.{Number}
 use Rattle.numbers.proofs.EncodeLaws.{last-in, more-in, encode-last}
 use Rattle.numbers.proofs.RoundTrip.{decode-encode}
 use Rattle.tables.specs.declared.Catalogue.{Catalogue}
@@ -28,9 +28,7 @@ use Rattle.tables.specs.Versions.{version_of, most_rows_in, needless, blank}
 use Rattle.tables.proofs.VersionLaws.{version-few, version-some, version-allows, version-needed, needless-same}
 use Rattle.tables.proofs.CatalogueLaws.{cells-next, table-ends}
 use Rattle.tables.proofs.CheckLaws.{inside, scheme-good, count-good, Clear, InRange}
-use Rattle.loader.specs.declared.Walk.TheVariants.{To}
-use Rattle.loader.specs.declared.Field.TheVariants.{Value}
-use Rattle.loader.specs.declared.Entry.TheVariants.{Table}
+use Rattle.loader.specs.Faults.{To, Value, Table}
 use Rattle.loader.proofs.ReadingLaws.{row-cells}
 use Rattle.loader.proofs.LoadLaws.{end-good}
 use Rattle.loader.specs.Reading.{run_end, codes, rows_from}

@@ -1,10 +1,10 @@
 -- "Both sides of each edge", the items marked P of Numbers and Images, each as it stands in document 01. Proved in proofs/Edges. Assumes nothing.
 use Rattle.std.specs.Prelude.{◌-◌, ◌^◌, ◌≡◌, [], ◌∷◌}
-use Rattle.numbers.specs.declared.Reading.TheVariants.{NumberFault}
+use Rattle.numbers.specs.Readings.{NumberFault}
 use Rattle.numbers.specs.Numbers.{encode, decode}
 use Rattle.tables.specs.Sizes.{most_cells}
 use Rattle.tables.specs.Catalogues.{total}
-use Rattle.loader.specs.declared.Verdict.TheVariants.{Good, Refused}
+use Rattle.loader.specs.Faults.{Good, Refused}
 use Rattle.loader.specs.Reading.{refusal_at}
 use Rattle.loader.specs.Load.{first_table, scan_of, tables_codes}
 

@@ -4,8 +4,7 @@ use Rattle.laws.specs.Lists.{put}
 use Rattle.tables.specs.declared.Catalogue.{Catalogue}
 use Rattle.tables.specs.Catalogues.{filled, given}
 use Rattle.tables.specs.Sizes.{most_tables}
-use Rattle.loader.specs.declared.Verdict.TheVariants.{Good}
-use Rattle.loader.specs.declared.Loaded.{Loaded}
+use Rattle.loader.specs.Faults.{Good, Loaded}
 use Rattle.loader.specs.Load.{first_table, tables_codes}
 
 -- The first n of eight entries; "entries from n on .. are 0".

@@ -2,139 +2,124 @@
 
 // The program `import M FILE..`: reads a table of attributes below M from each file of comma-separated text, and writes the image of them all to standard output.
 // Else nothing is written there. The first file that is refused is told on standard error with its number, line and field; then the tables together.
-ghost use Rattle.std.specs.Prelude.{◌≤◌, length};
+ghost use Rattle.std.specs.Prelude.{◌≤◌};
 
-use importer::TextRead;
-use lines::Word;
+use importer::Table;
+use refusals::Refusal;
 use std::fs::File;
-use tables::Catalogue;
-use writer::Written;
 
-// Says on standard error what the arguments are.
-fn usage(rt: &HostRuntime) {
-    teller::say(rt, b"usage: import M FILE..\n");
+// The most bytes that are read of a file.
+const MOST_TEXT: usize = 262144;
+
+// The most rows that a table may have.
+const MOST_ROWS: u64 = 4095;
+
+// Why no image is written: wrong arguments, a file of which it is told already why it gives no table, or a refusal of the tables together.
+#[derive(Drop)]
+enum Failure {
+    WrongArguments,
+    NoTable,
+    Refused(Refusal),
 }
 
-// What a file gives: a table's scheme and how many rows it has; or nothing, and what was wrong is told.
-#[derive(Clone, Copy)]
-enum Taken {
-    Rows(u64, usize),
-    Nothing,
+impl From<Refusal> for Failure {
+    fn from(refusal: Refusal) -> Failure {
+        Failure::Refused(refusal)
+    }
 }
 
-// Reads a file as text, one table into the front of the cells.
+// Tells what is wrong with a file, and that it gives no table.
+fn no_table(rt: &HostRuntime, path: &[u8], why: &[u8]) -> Failure {
+    teller::say(rt, path);
+    teller::say(rt, why);
+    Failure::NoTable
+}
+
+// Reads a file as text, one table into the front of the cells. Where there is none, what was wrong is told.
 // Files are opened by names that are text, so one that is not UTF-8 is told.
-fn table_of(rt: &HostRuntime, m: usize, path: &[u8], cells: &mut [u64]) -> Taken {
+fn table_of(rt: &HostRuntime, m: usize, path: &[u8], cells: &mut [u64]) -> Result<Table, Failure> {
     let Ok(name) = std::str::from_utf8(path) else {
-        teller::say(rt, path);
-        teller::say(rt, b": name is not UTF-8\n");
-        return Taken::Nothing;
+        return Err(no_table(rt, path, b": name is not UTF-8\n"));
     };
     let mut file = match File::open(rt, name) {
         Ok(file) => file,
         Err(error) => {
             teller::fail(rt, path, &error);
-            return Taken::Nothing;
+            return Err(Failure::NoTable);
         }
     };
-    let mut text = [0u8; 262145];
+    let mut text = [0u8; MOST_TEXT + 1];
     let n = teller::read_full(&mut file, &mut text);
     drop(file);
-    if 262144 < n {
-        teller::say(rt, path);
-        teller::say(rt, b": input too long\n");
-        return Taken::Nothing;
+    if MOST_TEXT < n {
+        return Err(no_table(rt, path, b": input too long\n"));
     }
     match importer::read_text(m, &text[..n], cells) {
-        TextRead::Table(scheme, rows) => Taken::Rows(scheme, rows),
-        TextRead::Refused(number, line, field) => {
-            teller::say(rt, path);
-            teller::say(rt, b": ");
-            let numbers = [number as u64, line as u64, field as u64];
-            teller::tell(rt, &numbers);
-            Taken::Nothing
+        Ok(table) => Ok(table),
+        Err(fault) => {
+            let failure = no_table(rt, path, b": ");
+            teller::tell(
+                rt,
+                &[
+                    u64::from(fault.refusal),
+                    fault.line as u64,
+                    fault.field as u64,
+                ],
+            );
+            Err(failure)
         }
     }
 }
 
-// Writes the image of the tables.
-fn write_image(rt: &HostRuntime, cat: Catalogue, cells: &[u64]) {
-    let mut out = [0u8; 131072];
-    match writer::write(cat, cells, &mut out) {
-        Written::Length(n) => teller::send(rt, &out, n),
-        Written::Refused(number) => {
-            let numbers = [number as u64];
-            teller::tell(rt, &numbers);
-        }
-    }
-}
-
-// Makes a catalogue of the tables and writes their image.
-// What the catalogue is refused for is told.
-fn write_tables(
-    rt: &HostRuntime,
-    m: usize,
-    n: usize,
-    schemes: [u64; 8],
-    rows: [u16; 8],
-    cells: &[u64],
-) {
-    let made = tables::make_catalogue(m, n, schemes, rows);
-    if made.refusal != 0 {
-        let numbers = [made.refusal as u64];
-        teller::tell(rt, &numbers);
-        return;
-    }
-    write_image(rt, made.catalogue, cells);
-}
-
-// Reads the files that the arguments from the third on name, a table each, and writes their image.
-fn import_all(rt: &HostRuntime, m: usize, files: usize)
+// Reads the files that the arguments from the third on name, a table each, and puts their image into the front of the output. Gives its length.
+fn import_files(rt: &HostRuntime, m: usize, files: usize, out: &mut [u8]) -> Result<usize, Failure>
     requires { files ≤ 8 }
 {
     let mut cells = [0u64; 8192];
     let mut schemes = [0u64; 8];
     let mut rows = [0u16; 8];
-    let mut used: usize = 0;
-    let mut t: usize = 0;
-    while t < files {
-        let mut path = [0u8; 4096];
-        let k = teller::arg(rt, t + 2, &mut path);
-        match table_of(rt, m, &path[..k], &mut cells[used..]) {
-            Taken::Nothing => return,
-            Taken::Rows(scheme, n) => {
-                let fault = tables::count_fault(4095, 8192, used, scheme, n as u64);
-                if fault != 0 {
-                    let numbers = [fault as u64];
-                    teller::tell(rt, &numbers);
-                    return;
-                }
-                schemes[t] = scheme;
-                rows[t] = n as u16;
-                used = used + n * tables::width(scheme);
-            }
-        }
-        t = t + 1;
+    let mut used = 0;
+    for t in 0..files {
+        let mut word = [0u8; 4096];
+        let path = teller::arg(rt, t + 2, &mut word);
+        let table = table_of(rt, m, path, &mut cells[used..])?;
+        used = tables::check_count(
+            MOST_ROWS,
+            cells.len(),
+            used,
+            table.scheme,
+            table.rows as u64,
+        )?;
+        schemes[t] = table.scheme;
+        rows[t] = table.rows as u16;
     }
-    write_tables(rt, m, files, schemes, rows, &cells);
+    let cat = tables::make_catalogue(m, files, schemes, rows)?;
+    let length = writer::write(cat, &cells, out)?;
+    Ok(length)
 }
 
-// Reads the tables that the arguments name.
-fn main(rt: HostRuntime) {
-    let count = teller::arg_count(&rt);
+// Writes the image of the tables that the arguments name.
+// More files than there can be tables are refused before one is read.
+fn import(rt: &HostRuntime) -> Result<(), Failure> {
+    let count = teller::arg_count(rt);
     if count < 2 {
-        usage(&rt);
-        return;
+        return Err(Failure::WrongArguments);
     }
     if 10 < count {
-        let numbers = [4];
-        teller::tell(&rt, &numbers);
-        return;
+        return Err(Failure::Refused(Refusal::SizesOut));
     }
-    let mut word = [0u8; 64];
-    let n = teller::arg(&rt, 1, &mut word);
-    match lines::read_decimal(&word[..n]) {
-        Word::Number(m) => import_all(&rt, m as usize, count - 2),
-        Word::Other => usage(&rt),
+    let m = teller::number(rt, 1).ok_or(Failure::WrongArguments)?;
+    let mut out = [0u8; 131072];
+    let length = import_files(rt, m as usize, count - 2, &mut out)?;
+    teller::send(rt, &out, length);
+    Ok(())
+}
+
+// Imports, or tells on standard error why nothing is written.
+fn main(rt: HostRuntime) {
+    match import(&rt) {
+        Ok(()) | Err(Failure::NoTable) => {}
+        Err(Failure::WrongArguments) => teller::say(&rt, b"usage: import M FILE..\n"),
+        Err(Failure::Refused(refusal)) => teller::tell(&rt, &[u64::from(refusal)]),
     }
 }

@@ -1,34 +1,25 @@
 -- The rows of all lines: what is told once a line more is read, one law for each way; and the cells that they fill. Assumes nothing.
 use Prim.Native.Nat.{ℕ, ◌+◌, ◌-◌, ◌≤◌, ◌<◌}
 use native.Mathlib.Omega.{arith}
-use mathlib.Core.Path.{◌≡◌, refl, sym, subst, ◌∙◌}
+use mathlib.Core.Path.{◌≡◌, refl, sym, ◌∙◌}
 use mathlib.Core.List.{List, [], ◌∷◌, ◌++◌}
-use lib.ListN.{length, take, drop, set, get_or}
+use lib.ListN.{length, take, drop, get_or}
 use lib.Seq.{length-take-le}
 use borrow.Author.Tests.{lt-ltb}
-use Rattle.laws.specs.Lists.{put, over, part}
-use Rattle.laws.proofs.ListLaws.{put-cons, put-nil, over-append}
+use Rattle.laws.specs.Lists.{over, part}
+use Rattle.laws.proofs.ListLaws.{put-nil, over-append}
 use Rattle.order.proofs.PlaceLaws.{part-rest, part_end}
 use Rattle.tables.specs.Sizes.{most_rows}
 use Rattle.text.specs.declared.Form.TheVariants.{AtStart}
-use Rattle.text.specs.declared.CodeAt.{CodeAt}
 use Rattle.text.specs.Lines.{lines_from}
 use Rattle.text.specs.Reading.{refused, insert, counted, rows_from, flat}
-use Rattle.text.specs.Order.{Rising, none}
-use Rattle.text.specs.Fields.{codes_at, Reads}
-use Rattle.text.proofs.OrderLaws.{insert-rising}
+use Rattle.text.specs.Fields.{codes_at}
 use Rattle.text.proofs.InsertLaws.{insert-long}
-use Rattle.text.proofs.Fieldwise.{codes-none, length-codes-at}
-use Rattle.importer.specs.declared.Line.{Line}
-use Rattle.importer.specs.declared.Line.TheVariants.{Row, End, BadLine}
-use Rattle.importer.specs.declared.Collected.TheVariants.{Kept, Faulty}
+use Rattle.text.proofs.Fieldwise.{length-codes-at}
+use Rattle.importer.specs.Answers.{BadLine, End, Faulty, Row}
 use Rattle.importer.specs.Steps.{LineSays}
 use Rattle.importer.specs.Kept.{rows_at, Keeps, Collects, Overfull}
-use Rattle.importer.proofs.PlacesLaws.{codes-read, rows_more, length-rows}
-
--- What is said of a line's answer, said of what it is.
-pub says_is : {w at : ℕ} {s : List ℕ} {r a : Line} → r ≡ a → LineSays w s at r → LineSays w s at a
-says_is {w} {at} {s} e h = subst (LineSays w s at) e h
+use Rattle.importer.proofs.PlacesLaws.{rows_more, length-rows}
 
 counted-6 : (room x w : ℕ) (kept : List (List ℕ)) → most_rows < length kept → counted room x w kept ≡ refused 6 0 0
 unfolding counted
@@ -43,9 +34,6 @@ pub record RestSoFar (w : ℕ) (s : List ℕ) (from first at l : ℕ) : Type 0 w
       × (rows_from room x w first kept (lines_from (drop from s) AtStart 0 []) ≡ rows_from room x w l more (lines_from (drop at s) AtStart 0 []))
   pub low : l ≤ at + 1
   pub most : at ≤ length s
-
-pub rest-start : (w : ℕ) (s : List ℕ) (from first : ℕ) → first ≤ from + 1 → from ≤ length s → RestSoFar w s from first from first
-rest-start w s from first h k = record { told = λ room x kept m. (kept, m, refl); low = h; most = k }
 
 module _ (w : ℕ) (s : List ℕ) (from first at l : ℕ) (so : RestSoFar w s from first at l) where
   pub rest-on : (n : ℕ) → LineSays w s at (Row n) → RestSoFar w s from first n (l + 1)
@@ -81,35 +69,18 @@ module _ (w : ℕ) (s : List ℕ) (from first at l : ℕ) (so : RestSoFar w s fr
 -- Lines were read to a place, and the rows of n places are kept.
 pub record CollectSoFar (w : ℕ) (s : List ℕ) (from : ℕ) (places : List ℕ) (at l n : ℕ) : Type 0 where
   pub told : (room x : ℕ) → rows_from room x w 2 [] (lines_from (drop from s) AtStart 0 []) ≡ rows_from room x w l (rows_at w s (take n places)) (lines_from (drop at s) AtStart 0 [])
-  pub rise : Rising (rows_at w s (take n places))
   pub few : n ≤ most_rows
   pub low : l ≤ at + 1
   pub most : at ≤ length s
 
 pub collect-start : (w : ℕ) (s : List ℕ) (from : ℕ) (places : List ℕ) → 1 ≤ from → from ≤ length s → CollectSoFar w s from places from 2 0
 unfolding rows_at
-collect-start w s from places h k = record { told = λ room x. refl; rise = none; few = omega arith; low = omega arith; most = k }
+collect-start w s from places h k = record { told = λ room x. refl; few = omega arith; low = omega arith; most = k }
 
 module _ (w : ℕ) (s : List ℕ) (from : ℕ) (places : List ℕ) (at l n : ℕ) (so : CollectSoFar w s from places at l n) where
-  pub collect-end : LineSays w s at End → Collects w s from (Kept n) places
-  collect-end e = record { told = λ room x. so.told room x ∙ e.told room x l (rows_at w s (take n places)); sizes = so.few }
-
-  pub collect-bad : (k f : ℕ) (after : List ℕ) → LineSays w s at (BadLine k f) → Collects w s from (Faulty k l f) after
-  collect-bad k f after e = record { told = λ room x. so.told room x ∙ e.told room x l (rows_at w s (take n places)); sizes = tt }
-
   module _ (next r : ℕ) (after : List ℕ) (e : LineSays w s at (Row next)) (k : Keeps w s places n at r after) where
     line-more : (room x : ℕ) → rows_from room x w 2 [] (lines_from (drop from s) AtStart 0 []) ≡ rows_from room x w (l + 1) (rows_at w s (take r after)) (lines_from (drop next s) AtStart 0 [])
     line-more room x = so.told room x ∙ e.told room x l (rows_at w s (take n places)) ∙ rw k.rows
-
-    pub collect-on : r ≤ most_rows → CollectSoFar w s from after next (l + 1) r
-    collect-on h =
-        record {
-          told = line-more;
-          rise = rw k.rows (insert-rising (codes_at w s at) (rows_at w s (take n places)) so.rise);
-          few = h;
-          low = omega (arith, so.low, e.sizes);
-          most = e.sizes.1;
-        }
 
     pub collect-over : {c : _} → most_rows < r → r ≤ length after → Overfull w s next (l + 1) c → Collects w s from c after
     collect-over h q o =
@@ -120,20 +91,9 @@ module _ (w : ℕ) (s : List ℕ) (from : ℕ) (places : List ℕ) (at l n : ℕ
 
 -- ---- the cells
 
--- A line's next code is put.
-pub fill_on : (o s : List ℕ) (i k left : ℕ) (r : CodeAt) → 0 < left → k < length o → Reads s i r
-    → over k (codes_at left s i) o ≡ over (k + 1) (codes_at (left - 1) s r.next) (set o k r.code)
-fill_on o s i k left r h l e = rw (codes-read left s i r h e) (put-cons o k r.code (codes_at (left - 1) s r.next) l)
-
-pub fill_end : (o s : List ℕ) (i k left : ℕ) → left ≤ 0 → over k (codes_at left s i) o ≡ o
-fill_end o s i k left h = rw (codes-none left s i h) (put-nil o k)
-
 -- The rows from place u on are left to be put from cell k on.
 abbrev pub left_over : (w : ℕ) (s places : List ℕ) (n u k : ℕ) → List ℕ → List ℕ
 left_over w s places n u k o = over k (flat (rows_at w s (part u (n - u) places))) o
-
-pub fill_start : (w : ℕ) (s places : List ℕ) (n : ℕ) (o : List ℕ) → put (flat (rows_at w s (take n places))) o ≡ left_over w s places n 0 0 o
-fill_start w s places n o = let e : n - 0 ≡ n = omega arith in rw e
 
 flat-more : (r : List ℕ) (rows : List (List ℕ)) → flat (r ∷ rows) ≡ r ++ flat rows
 unfolding flat

@@ -1,9 +1,10 @@
 -- The header from field to field: what is known of it so far, one law for each way that its next field goes. Assumes nothing.
 use Prim.Native.Nat.{ℕ, zero, suc, ◌+◌, ◌-◌, ◌^◌, ◌≤◌, ◌<◌}
-use native.Mathlib.Decide.{ℕ_discrete}
+use native.Mathlib.Decide.{ℕ_discrete, dec_lt}
 use native.Mathlib.Nat.{pow-suc}
 use native.Mathlib.Omega.{arith}
 use mathlib.Core.Path.{◌≡◌, refl, sym, ap, ◌∙◌}
+use mathlib.Core.Logic.{◌⊎◌, inl, inr}
 use mathlib.Core.Bool.{Bool, true, false, cond, ◌&&◌}
 use mathlib.Core.List.{List, [], ◌∷◌, ◌++◌}
 use lib.ListN.{length, drop}
@@ -17,8 +18,12 @@ use Rattle.text.specs.Lines.{Lines, line, lines_from}
 use Rattle.text.specs.Reading.{header_fault, scheme_from, refused, or_else, rows_from, headed}
 use Rattle.text.specs.Fields.{field_at}
 use Rattle.text.proofs.Fieldwise.{comma-next, line-next, lines-field}
-use Rattle.importer.specs.declared.Head.TheVariants.{Rows, BadHead}
-use Rattle.importer.specs.Steps.{head_bad, scheme_on, head_or, head_told, HeadSizes, HeadSays}
+use Rattle.importer.specs.Answers.{BadHead, Rows}
+use Rattle.std.specs.Prelude.{Result, Ok, Err, IfOk}
+use Rattle.refusals.specs.declared.Refusal.TheVariants.{BadHeader}
+use Rattle.refusals.specs.Refusals.{number}
+use Rattle.importer.specs.declared.answers.LineFault.{LineFault}
+use Rattle.importer.specs.Steps.{head_bad, scheme_on, scheme_or, Grows, head_or, head_told, HeadSizes, HeadSays}
 use Rattle.importer.proofs.LineSteps.{length-snoc, last-behind, last_none}
 
 -- ---- one field more
@@ -106,6 +111,66 @@ pub head_rows : (bad x w n : ℕ) → bad ≡ 0 → head_or bad x w n ≡ Rows x
 unfolding head_or
 head_rows bad x w n e = rw e
 
+-- ---- the scheme so far, as the code holds it
+
+held-bad : (r : Result ℕ LineFault) (f : LineFault) (bad x : ℕ) → r ≡ Err f → r ≡ scheme_or bad x → 0 < bad
+unfolding scheme_or
+held-bad r f zero x p e = absurd (let z : ◌≡◌ {A = Result ℕ LineFault} (Err f) (Ok x) = sym p ∙ e in cc)
+held-bad r f (suc k) x p e = omega arith
+
+held-ok : (r : Result ℕ LineFault) (y bad x : ℕ) → r ≡ Ok y → r ≡ scheme_or bad x → (bad ≡ 0) × (y ≡ x)
+unfolding scheme_or
+held-ok r y zero x p e = (refl, let z : ◌≡◌ {A = Result ℕ LineFault} (Ok y) (Ok x) = sym p ∙ e in cc)
+held-ok r y (suc k) x p e = absurd (let z : ◌≡◌ {A = Result ℕ LineFault} (Ok y) (scheme_or (suc k) x) = sym p ∙ e in cc)
+
+or-any : (bad x y : ℕ) → 0 < bad → scheme_or bad x ≡ scheme_or bad y
+unfolding scheme_or
+or-any zero x y h = absurd (omega arith)
+or-any (suc k) x y h = refl
+
+or-fault : (bad x : ℕ) → 0 < bad → scheme_or bad x ≡ Err (record { refusal = BadHeader; field = bad })
+unfolding scheme_or
+or-fault zero x h = absurd (omega arith)
+or-fault (suc k) x h = refl
+
+or-scheme : (bad x : ℕ) → bad ≡ 0 → scheme_or bad x ≡ Ok x
+unfolding scheme_or
+or-scheme bad x e = rw e
+
+-- One field more: what was at fault stays, this field is at fault, or its attribute is one of the scheme's.
+module _ (m field before c : ℕ) (r : Result ℕ LineFault) where
+  pub grows-bad : (f : LineFault) → r ≡ Err f → Grows m field before c r r
+  grows-bad f p bad x e =
+      let h = held-bad r f bad x p e in
+      rw (bad-before m bad field before c h) (e ∙ or-any bad x (scheme_on bad x c) h)
+
+  pub grows-fault : (y : ℕ) → r ≡ Ok y → 0 < field → (c ≤ before) ⊎ (m < c) → Grows m field before c r (Err (record { refusal = BadHeader; field = field }))
+  grows-fault y p h g bad x e =
+      let z = (held-ok r y bad x p e).0 in
+      let b : head_bad m bad field before c ≡ field = at g z (dec_lt before c) in
+      rw b (sym (or-fault field (scheme_on field x c) h))
+    where
+      at : (c ≤ before) ⊎ (m < c) → bad ≡ 0 → Dec (before < c) → head_bad m bad field before c ≡ field
+      at (inl l) z d = bad-falls m bad field before c z l
+      at (inr l) z (yes k) = bad-high m bad field before c z k l
+      at (inr l) z (no k) = bad-falls m bad field before c z (omega arith)
+
+  pub grows-ok : (y : ℕ) → r ≡ Ok y → before < c → c ≤ m → Grows m field before c r (Ok (y + 2 ^ (c - 1)))
+  grows-ok y p h l bad x e =
+      let (z, q) = held-ok r y bad x p e in
+      let b = bad-none m bad field before c z h l in
+      rw (b, q) (ap Ok (sym (scheme-good 0 x c refl)) ∙ sym (or-scheme 0 (scheme_on 0 x c) refl))
+
+-- The header ends as the scheme is.
+pub ends-ok : (r : Result ℕ LineFault) (y bad x w n : ℕ) → r ≡ Ok y → r ≡ scheme_or bad x → head_or bad x w n ≡ Rows y w n
+ends-ok r y bad x w n p e = let (z, q) = held-ok r y bad x p e in rw q (head_rows bad x w n z)
+
+pub ends-bad : (r : Result ℕ LineFault) (f : LineFault) (bad x w n : ℕ) → r ≡ Err f → r ≡ scheme_or bad x → head_or bad x w n ≡ BadHead (number f.refusal) f.field
+ends-bad r f bad x w n p e =
+    let h = held-bad r f bad x p e in
+    let q : f ≡ record { refusal = BadHeader; field = bad } = (let z : ◌≡◌ {A = Result ℕ LineFault} (Err f) (Err (record { refusal = BadHeader; field = bad })) = sym p ∙ e ∙ or-fault bad x h in cc) in
+    rw q (head-bad bad x w n h)
+
 -- ---- what is known so far
 
 -- The scheme of a header that is not bad, and how far its attributes go.
@@ -126,7 +191,14 @@ pub record HeadSoFar (m : ℕ) (s : List ℕ) (i field before bad x : ℕ) : Typ
   pub far : field ≤ i
   pub most : i ≤ length s
 
-pub so-far-start : (m : ℕ) (s : List ℕ) → HeadSoFar m s 0 0 0 0 0
+-- The same, where the code holds the scheme so far.
+pub record HeadHeld (m : ℕ) (s : List ℕ) (i field before : ℕ) (r : Result ℕ LineFault) : Type 0 where
+  pub bad : ℕ
+  pub x : ℕ
+  pub so : HeadSoFar m s i field before bad x
+  pub held : r ≡ scheme_or bad x
+
+so-far-start : (m : ℕ) (s : List ℕ) → HeadSoFar m s 0 0 0 0 0
 unfolding last_from header_fault scheme_from
 so-far-start m s =
     record {
@@ -182,12 +254,6 @@ module _ (m : ℕ) (s : List ℕ) (i field before bad x : ℕ) (so : HeadSoFar m
   fault-next : now-bad ≡ header_fault m 1 0 (so.row ++ (c ∷ []))
   fault-next = rw (so.fault, so.last, ← so.fields) (sym (header-next m so.row c))
 
-  -- What the scheme's next bit asks for.
-  pub room_for : now-bad ≡ 0 → (1 ≤ c) × (c ≤ m) × (x < 2 ^ (c - 1))
-  room_for e =
-      let (z, p, q) = none-bad m bad (field + 1) before c (omega arith) e in
-      (omega arith, q, doubled x before c p (so.mask z).low)
-
   mask_next : now-bad ≡ 0 → Mask m (so.row ++ (c ∷ [])) (field + 1) c (scheme_on now-bad x c)
   mask_next e =
       let (z, p, q) = none-bad m bad (field + 1) before c (omega arith) e in
@@ -200,7 +266,7 @@ module _ (m : ℕ) (s : List ℕ) (i field before bad x : ℕ) (so : HeadSoFar m
         low = rw g (omega (arith, doubled x before c p k.low, power c (omega arith)));
       }
 
-  pub so-far-on : (n : ℕ) → field_at s i ≡ ToComma c n → HeadSoFar m s n (field + 1) c now-bad (scheme_on now-bad x c)
+  so-far-on : (n : ℕ) → field_at s i ≡ ToComma c n → HeadSoFar m s n (field + 1) c now-bad (scheme_on now-bad x c)
   so-far-on n e =
       let (p, q) = comma-next s i c n so.most e in
       record {
@@ -235,13 +301,13 @@ module _ (m : ℕ) (s : List ℕ) (i field before bad x : ℕ) (so : HeadSoFar m
         sizes = or-sizes m (length s) now-bad (scheme_on now-bad x c) (field + 1) n p q (omega arith) (λ z. let k = mask_next z in omega (arith, k.width, k.below));
       }
 
-  pub head-ends : (n : ℕ) → field_at s i ≡ ToLine c n → HeadSays m s (head_or now-bad (scheme_on now-bad x c) (field + 1) n)
+  head-ends : (n : ℕ) → field_at s i ≡ ToLine c n → HeadSays m s (head_or now-bad (scheme_on now-bad x c) (field + 1) n)
   head-ends n e =
       let (p, q) = line-next s i c n so.most e in
       ends n (omega arith) q (lines-field s so.row i (ToLine c n) e)
 
   -- The text ends behind a comma: an empty field, and the last.
-  pub head-last : 0 < field → field_at s i ≡ Nothing c → HeadSays m s (head_or now-bad (scheme_on now-bad x c) (field + 1) i)
+  head-last : 0 < field → field_at s i ≡ Nothing c → HeadSays m s (head_or now-bad (scheme_on now-bad x c) (field + 1) i)
   head-last z e =
       ends i (omega (arith, so.far)) so.most
       (lines-field s so.row i (Nothing c) e ∙ last-behind so.row c (omega (arith, so.fields)) ∙ ap (line (so.row ++ (c ∷ []))) (sym (lines-field s [] i (Nothing c) e)))
@@ -258,3 +324,41 @@ unfolding headed
 head-outside m s i field before bad x so e =
     let q : length so.row + 1 ≡ field + 1 = omega (arith, so.fields) in
     record { told = λ room. ap (headed m room) (so.lines ∙ lines-field s so.row i OutsideHere e) ∙ rw q; sizes = tt }
+
+pub held-start : (m : ℕ) (s : List ℕ) → HeadHeld m s 0 0 0 (Ok 0)
+unfolding scheme_or
+held-start m s = record { bad = 0; x = 0; so = so-far-start m s; held = refl }
+
+-- The header ends with the field here: with the line, or with the text behind a comma.
+abbrev pub Ended : (s : List ℕ) (i field c n : ℕ) → Type 0
+Ended s i field c n = (field_at s i ≡ ToLine c n) ⊎ ((0 < field) × (n ≡ i) × (field_at s i ≡ Nothing c))
+
+module _ (m : ℕ) (s : List ℕ) (i field before : ℕ) (r : Result ℕ LineFault) (so : HeadHeld m s i field before r) where
+  -- An attribute behind the last fits the scheme.
+  pub held-fits : IfOk r (λ x. x < 2 ^ before)
+  held-fits = at r refl
+    where
+      at : (q : Result ℕ LineFault) → r ≡ q → IfOk q (λ x. x < 2 ^ before)
+      at (Ok y) e = let (z, p) = held-ok r y so.bad so.x e so.held in rw p ((so.so.mask z).low)
+      at (Err f) e = tt
+
+  module _ (c : ℕ) (next : Result ℕ LineFault) (grows : Grows m (field + 1) before c r next) where
+    abbrev bad : ℕ
+    bad = head_bad m so.bad (field + 1) before c
+
+    abbrev x : ℕ
+    x = scheme_on bad so.x c
+
+    pub held-on : (n : ℕ) → field_at s i ≡ ToComma c n → HeadHeld m s n (field + 1) c next
+    held-on n e =
+        record { bad = bad; x = x; so = so-far-on m s i field before so.bad so.x so.so c n e; held = grows so.bad so.x so.held }
+
+    ended : (n : ℕ) → Ended s i field c n → HeadSays m s (head_or bad x (field + 1) n)
+    ended n (inl e) = head-ends m s i field before so.bad so.x so.so c n e
+    ended n (inr (h, p, e)) = rw p (head-last m s i field before so.bad so.x so.so c h e)
+
+    pub held-rows : (n y : ℕ) → Ended s i field c n → next ≡ Ok y → HeadSays m s (Rows y (field + 1) n)
+    held-rows n y e p = rw (ends-ok next y bad x (field + 1) n p (grows so.bad so.x so.held)) at (ended n e)
+
+    pub held-fault : (n : ℕ) (f : LineFault) → Ended s i field c n → next ≡ Err f → HeadSays m s (BadHead (number f.refusal) f.field)
+    held-fault n f e p = rw (ends-bad next f bad x (field + 1) n p (grows so.bad so.x so.held)) at (ended n e)

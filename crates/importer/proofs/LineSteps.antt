@@ -16,8 +16,13 @@ use Rattle.text.specs.Reading.{cell_fault, insert, refused, or_else, rows_from}
 use Rattle.text.specs.Fields.{field_at, code_of, next_of, codes_at}
 use Rattle.text.proofs.TextSays.{late, row-wrong, row-broken}
 use Rattle.text.proofs.Fieldwise.{comma-next, line-next, lines-field, codes-none, codes-next}
-use Rattle.importer.specs.declared.Line.TheVariants.{Row, End, BadLine}
-use Rattle.importer.specs.Steps.{cells_bad, line_or, ended_of, line_told, LineSizes, LineSays}
+use Rattle.importer.specs.Answers.{Line, BadLine, End, Row}
+use Rattle.std.specs.Prelude.{Result, Ok, Err}
+use Rattle.std.specs.Result.{result_and}
+use Rattle.refusals.specs.declared.Refusal.TheVariants.{BadCell}
+use Rattle.refusals.specs.Refusals.{number}
+use Rattle.importer.specs.declared.answers.LineFault.{LineFault}
+use Rattle.importer.specs.Steps.{cells_bad, cells_or, line_or, ended_of, Ends, line_told, LineSizes, LineSays}
 
 -- ---- one field more
 
@@ -77,6 +82,45 @@ pub ended-row : (w field bad n : ℕ) → field ≡ w → bad ≡ 0 → ended_of
 unfolding ended_of line_or
 ended-row w field bad n e z = rw (eq-eqb field w e, z)
 
+-- ---- whether all cells so far are good, as the code holds it
+
+or-good : (bad : ℕ) → bad ≡ 0 → cells_or bad ≡ Ok tt
+unfolding cells_or
+or-good bad e = rw e
+
+or-fault : (bad : ℕ) → 0 < bad → cells_or bad ≡ Err (record { refusal = BadCell; field = bad })
+unfolding cells_or
+or-fault zero h = absurd (omega arith)
+or-fault (suc k) h = refl
+
+held-bad : (r : Result Unit LineFault) (f : LineFault) (bad : ℕ) → r ≡ Err f → r ≡ cells_or bad → (0 < bad) × (f ≡ record { refusal = BadCell; field = bad })
+unfolding cells_or
+held-bad r f zero p e = absurd (let z : ◌≡◌ {A = Result Unit LineFault} (Err f) (Ok tt) = sym p ∙ e in cc)
+held-bad r f (suc k) p e =
+    (omega arith, let z : ◌≡◌ {A = Result Unit LineFault} (Err f) (Err (record { refusal = BadCell; field = suc k })) = sym p ∙ e in cc)
+
+held-good : (r : Result Unit LineFault) (u : Unit) (bad : ℕ) → r ≡ Ok u → r ≡ cells_or bad → bad ≡ 0
+unfolding cells_or
+held-good r u zero p e = refl
+held-good r u (suc k) p e = absurd (let z : ◌≡◌ {A = Result Unit LineFault} (Ok u) (cells_or (suc k)) = sym p ∙ e in cc)
+
+-- One field's cell.
+pub cell-good : (field c : ℕ) → c < no_code → cells_or (cells_bad 0 field c) ≡ Ok tt
+cell-good field c h = or-good (cells_bad 0 field c) (bad-none 0 field c refl h)
+
+pub cell-bad : (field c : ℕ) → 0 < field → no_code ≤ c → cells_or (cells_bad 0 field c) ≡ Err (record { refusal = BadCell; field = field })
+cell-bad field c z h = rw (bad-here 0 field c refl h) (or-fault field z)
+
+-- The line ends, in one of three ways.
+pub ends-short : (w field n : ℕ) (r : Result Unit LineFault) → field < w → Ends w field r n (BadLine 22 (field + 1))
+ends-short w field n r h bad e = sym (ended-missing w field bad n h)
+
+pub ends-bad : (w field n : ℕ) (r : Result Unit LineFault) (f : LineFault) → field ≡ w → r ≡ Err f → Ends w field r n (BadLine (number f.refusal) f.field)
+ends-bad w field n r f h p bad e = let (z, q) = held-bad r f bad p e in rw q (sym (ended-bad w field bad n h z))
+
+pub ends-row : (w field n : ℕ) (r : Result Unit LineFault) (u : Unit) → field ≡ w → r ≡ Ok u → Ends w field r n (Row n)
+ends-row w field n r u h p bad e = sym (ended-row w field bad n h (held-good r u bad p e))
+
 -- ---- what is known so far
 
 -- The line at a place was read to i, through so many fields.
@@ -89,7 +133,13 @@ pub record LineSoFar (w : ℕ) (s : List ℕ) (at i field bad : ℕ) : Type 0 wh
   pub far : at + field ≤ i
   pub most : i ≤ length s
 
-pub so-far-start : (w : ℕ) (s : List ℕ) (at : ℕ) → at ≤ length s → LineSoFar w s at at 0 0
+-- The same, where the code holds whether all cells are good.
+pub record LineHeld (w : ℕ) (s : List ℕ) (at i field : ℕ) (r : Result Unit LineFault) : Type 0 where
+  pub bad : ℕ
+  pub so : LineSoFar w s at i field bad
+  pub held : r ≡ cells_or bad
+
+so-far-start : (w : ℕ) (s : List ℕ) (at : ℕ) → at ≤ length s → LineSoFar w s at at 0 0
 unfolding cell_fault
 so-far-start w s at h = let e : w - 0 ≡ w = omega arith in record { row = []; fields = refl; lines = refl; fault = refl; codes = rw e; far = omega arith; most = h }
 
@@ -99,7 +149,7 @@ codes-from k s i c n h p q = codes-next k s i h ∙ rw (p, q)
 
 module _ (w : ℕ) (s : List ℕ) (at i field bad : ℕ) (so : LineSoFar w s at i field bad) (more : field < w) where
   -- A comma ends the field.
-  pub so-far-on : (c n : ℕ) → field_at s i ≡ ToComma c n → LineSoFar w s at n (field + 1) (cells_bad bad (field + 1) c)
+  so-far-on : (c n : ℕ) → field_at s i ≡ ToComma c n → LineSoFar w s at n (field + 1) (cells_bad bad (field + 1) c)
   unfolding code_of next_of
   so-far-on c n e =
       let k : w - field - 1 ≡ w - (field + 1) = omega arith in
@@ -170,14 +220,14 @@ module _ (w : ℕ) (s : List ℕ) (at i field bad : ℕ) (so : LineSoFar w s at 
         sizes = ended-sizes (cells_bad bad (field + 1) c) n h q;
       }
 
-  pub line-ends : (c n : ℕ) → field_at s i ≡ ToLine c n → LineSays w s at (ended_of w (field + 1) (cells_bad bad (field + 1) c) n)
+  line-ends : (c n : ℕ) → field_at s i ≡ ToLine c n → LineSays w s at (ended_of w (field + 1) (cells_bad bad (field + 1) c) n)
   unfolding code_of
   line-ends c n e =
       let (p, q) = line-next s i c n so.most e in
       ends c n (ap code_of e) (omega (arith, so.far)) q (lines-field s so.row i (ToLine c n) e)
 
   -- The text ends behind a comma: an empty field, and the last.
-  pub line-last : (c : ℕ) → 0 < field → field_at s i ≡ Nothing c → LineSays w s at (ended_of w (field + 1) (cells_bad bad (field + 1) c) i)
+  line-last : (c : ℕ) → 0 < field → field_at s i ≡ Nothing c → LineSays w s at (ended_of w (field + 1) (cells_bad bad (field + 1) c) i)
   unfolding code_of
   line-last c z e =
       ends c i (ap code_of e) (omega (arith, so.far)) so.most
@@ -205,3 +255,30 @@ line-surplus w s at i field bad so z e =
       told = λ room x l kept. ap (rows_from room x w l kept) so.lines ∙ late room x w l kept (drop i s) AtStart 0 so.row (omega (arith, so.fields)) (omega (arith, so.fields));
       sizes = tt;
     }
+
+pub held-start : (w : ℕ) (s : List ℕ) (at : ℕ) → at ≤ length s → LineHeld w s at at 0 (Ok tt)
+unfolding cells_or
+held-start w s at h = record { bad = 0; so = so-far-start w s at h; held = refl }
+
+-- Whether the cells are good once one more is known.
+and-cell : (bad field c : ℕ) → result_and (cells_or bad) (cells_or (cells_bad 0 field c)) ≡ cells_or (cells_bad bad field c)
+unfolding cells_or cells_bad
+and-cell zero field c = refl
+and-cell (suc k) field c = refl
+
+module _ (w : ℕ) (s : List ℕ) (at i field : ℕ) (r : Result Unit LineFault) (so : LineHeld w s at i field r) (more : field < w)
+    (c : ℕ) (next : Result Unit LineFault) (joined : next ≡ result_and r (cells_or (cells_bad 0 (field + 1) c))) where
+  abbrev bad : ℕ
+  bad = cells_bad so.bad (field + 1) c
+
+  held-next : next ≡ cells_or bad
+  held-next = joined ∙ rw so.held (and-cell so.bad (field + 1) c)
+
+  pub held-on : (n : ℕ) → field_at s i ≡ ToComma c n → LineHeld w s at n (field + 1) next
+  held-on n e = record { bad = bad; so = so-far-on w s at i field so.bad so.so more c n e; held = held-next }
+
+  pub held-ends : (n : ℕ) (a : Line) → field_at s i ≡ ToLine c n → Ends w (field + 1) next n a → LineSays w s at a
+  held-ends n a e g = rw (g bad held-next) (line-ends w s at i field so.bad so.so more c n e)
+
+  pub held-last : (a : Line) → 0 < field → field_at s i ≡ Nothing c → Ends w (field + 1) next i a → LineSays w s at a
+  held-last a z e g = rw (g bad held-next) (line-last w s at i field so.bad so.so more c z e)

@@ -15,12 +15,7 @@ use Rattle.text.specs.Lines.{lines_from}
 use Rattle.text.specs.Reading.{Told, table, refused, counted, rows_from, read_of, flat}
 use Rattle.text.proofs.TextSays.{in-range}
 use Rattle.laws.specs.Lists.{put}
-use Rattle.importer.specs.declared.TextRead.{TextRead}
-use Rattle.importer.specs.declared.TextRead.TheVariants.{Table, Refused}
-use Rattle.importer.specs.declared.Head.{Head}
-use Rattle.importer.specs.declared.Head.TheVariants.{Rows, BadHead}
-use Rattle.importer.specs.declared.Collected.{Collected}
-use Rattle.importer.specs.declared.Collected.TheVariants.{Kept, Faulty}
+use Rattle.importer.specs.Answers.{BadHead, Kept, Refused, Rows, Table, TextRead}
 use Rattle.importer.specs.Steps.{HeadSays}
 use Rattle.importer.specs.Kept.{rows_at, Collects}
 use Rattle.importer.specs.Promise.{Tells, ReadsText}
@@ -50,16 +45,10 @@ tells_is {t} {u} {lent} {after} {r} e h = subst (λ v. Tells v lent r after) (sy
 pub tells-refused : (k l f : ℕ) (lent : List ℕ) → Tells (refused k l f) lent (Refused k l f) lent
 tells-refused k l f lent = record { answer = refl; cells = refl }
 
-pub collects-is : {w from : ℕ} {s after : List ℕ} {r a : Collected} → r ≡ a → Collects w s from r after → Collects w s from a after
-collects-is {w} {from} {s} {after} e h = subst (λ v. Collects w s from v after) e h
-
 module _ (w : ℕ) (s : List ℕ) (from x : ℕ) (lent : List ℕ) where
   -- What the rows tell.
   abbrev pub rows_told : Told
   rows_told = rows_from (length lent) x w 2 [] (lines_from (drop from s) AtStart 0 [])
-
-  pub rows-refused : (k l f : ℕ) (places : List ℕ) → Collects w s from (Faulty k l f) places → Tells rows_told lent (Refused k l f) lent
-  rows-refused k l f places e = tells_is (e.told (length lent) x) (tells-refused k l f lent)
 
   module _ (n : ℕ) (places : List ℕ) (e : Collects w s from (Kept n) places) (m : n ≤ length places) where
     rows_are : length (rows_at w s (take n places)) ≡ n
@@ -76,9 +65,6 @@ module _ (w : ℕ) (s : List ℕ) (from x : ℕ) (lent : List ℕ) where
         tells_is (e.told (length lent) x ∙ good (length lent) x w n _ rows_are e.sizes h k) (record { answer = ap (Table x) (sym rows_are); cells = c })
 
 -- ---- the whole
-
-pub head-is : {m : ℕ} {s : List ℕ} {r a : Head} → r ≡ a → HeadSays m s r → HeadSays m s a
-head-is {m} {s} e h = subst (HeadSays m s) e h
 
 below-range : (m room : ℕ) (s : List ℕ) → m < 1 → read_of m room s ≡ refused 4 0 0
 unfolding read_of

@@ -1,3 +1,4 @@
+pub mod Answers
 pub mod Steps
 pub mod Kept
 pub mod Promise

@@ -1,8 +1,7 @@
 -- What a reading of a table from text promises: "#113 Read one table from it .. A refusal writes nothing." Assumes nothing.
 use Rattle.std.specs.Prelude.{ℕ, ◌≡◌, List, length}
 use Rattle.text.specs.Reading.{Told, table, refused, read_of, cells_after}
-use Rattle.importer.specs.declared.TextRead.{TextRead}
-use Rattle.importer.specs.declared.TextRead.TheVariants.{Table, Refused}
+use Rattle.importer.specs.Answers.{TextRead, Table, Refused}
 
 -- A table by its scheme and how many rows it has, or a refusal with line and field.
 abbrev pub answer_of : Told → TextRead

@@ -1,49 +1,52 @@
 // All rows' lines of a text: which rows there are, or the first refusal.
-ghost use Rattle.std.specs.Prelude.{◌+◌, ◌≤◌, ◌<◌, length};
+ghost use Rattle.std.specs.Prelude.{◌≡◌, ◌+◌, ◌≤◌, ◌<◌, length};
+ghost use Rattle.importer.specs.Answers.{fault_of, collected_in};
 ghost use Rattle.importer.specs.Kept.{Collects, Overfull};
 
-use crate::{Collected, Line, keeper, liner};
+use crate::answers::TextFault;
+use crate::keeper::Kept;
+use crate::liner::Lines;
+use refusals::Refusal;
 
-// The lines from a place on once more rows are kept than a table may have: a line's own fault, or at the end 6.
+// The most rows that a table may have.
+const MOST_ROWS: usize = 4095;
+
+// What the lines from a place on are refused for, once more rows are kept than a table may have: a line's own fault, or at the end 6.
 // Nothing is kept any more, since no number of rows helps; but 22 and 24 come first in reading order.
-fn refuse_rest(text: &[u8], w: usize, from: usize, first: usize) -> Collected
-    requires { (0 < w) × (w < 64) × (from ≤ length text.now) × (first ≤ from + 1) }
-    ensures { Overfull w text.now from first result }
+fn refuse_rest(lines: &Lines<'_>, from: usize, first: usize) -> TextFault
+    requires { (from ≤ length lines.now.text.now) × (first ≤ from + 1) }
+    ensures { Overfull lines.now.width lines.now.text.now from first (fault_of result) }
 {
     let mut at = from;
     let mut line = first;
     loop {
-        match liner::row_line(text, at, w) {
-            Line::End => return Collected::Faulty(6, 0, 0),
-            Line::BadLine(number, field) => return Collected::Faulty(number, line, field),
-            Line::Row(next) => {
+        match lines.read(at) {
+            Ok(Some(next)) => {
                 at = next;
-                line = line + 1;
+                line += 1;
             }
+            Ok(None) => return TextFault::whole(Refusal::ManyRows),
+            Err(fault) => return fault.on(line),
         }
     }
 }
 
-// The lines from a place on, the first of which has number 2: how many different rows they have, and in the front of `places` where these stand.
-pub fn collect(text: &[u8], w: usize, from: usize, places: &mut [usize]) -> Collected
-    requires { (0 < w) × (w < 64) × (1 ≤ from) × (from ≤ length text.now) × (4096 ≤ length places.old) }
-    ensures { Collects w text.now from result places.new }
+// Keeps the rows of the lines from a place on, the first of which has number 2.
+pub fn collect(kept: &mut Kept<'_>, from: usize) -> Result<(), TextFault>
+    requires { (kept.old.count ≡ 0) × (1 ≤ from) × (from ≤ length kept.old.lines.text.now) }
+    ensures same_lines { kept.new.lines ≡ kept.old.lines }
+    ensures told { Collects kept.old.lines.width kept.old.lines.text.now from (collected_in result kept.new.count) kept.new.places }
 {
+    let lines = kept.lines;
     let mut at = from;
-    let mut line: usize = 2;
-    let mut n: usize = 0;
-    loop {
-        match liner::row_line(text, at, w) {
-            Line::End => return Collected::Kept(n),
-            Line::BadLine(number, field) => return Collected::Faulty(number, line, field),
-            Line::Row(next) => {
-                n = keeper::keep(text, w, places, n, at);
-                at = next;
-                line = line + 1;
-            }
-        }
-        if 4095 < n {
-            return refuse_rest(text, w, at, line);
+    let mut line = 2;
+    while let Some(next) = lines.read(at).map_err(|fault| fault.on(line))? {
+        kept.keep(at);
+        at = next;
+        line += 1;
+        if MOST_ROWS < kept.len() {
+            return Err(refuse_rest(&lines, at, line));
         }
     }
+    Ok(())
 }

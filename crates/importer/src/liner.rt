@@ -1,64 +1,101 @@
-// A row's line: its fields one by one, and which refusal it meets.
-ghost use Rattle.std.specs.Prelude.{◌≡◌, ◌≤◌, ◌<◌, length};
-ghost use Rattle.importer.specs.Steps.{cells_bad, ended_of, LineSays};
+// The lines of a text behind its header, each a row: its fields one by one, and which refusal it meets.
+ghost use Rattle.std.specs.Prelude.{◌≡◌, ◌+◌, ◌^◌, ◌≤◌, ◌<◌, length};
+ghost use Rattle.laws.specs.Lists.{over};
+ghost use Rattle.text.specs.Fields.{codes_at};
+ghost use Rattle.importer.specs.Answers.{line_in};
+ghost use Rattle.importer.specs.Steps.{cells_bad, ended_of, LineSays, cells_or, Ends};
 
-use crate::Line;
-use text::Fielded;
+use crate::answers::LineFault;
+use refusals::Refusal;
+use text::{Codes, Fielded, NO_CODE};
 
-// The first field of the line whose cell is at fault, once the field of this number has the code; 0 for none.
-fn first_bad(bad: usize, field: usize, code: u64) -> usize
-    ensures { result ≡ cells_bad bad field code }
+// Whether the field of this number, which has the code, is a cell.
+fn cell(field: usize, code: u64) -> Result<(), LineFault>
+    requires { 0 < field }
+    ensures { result ≡ cells_or (cells_bad 0 field code) }
 {
-    if bad != 0 {
-        return bad;
+    if code < NO_CODE {
+        return Ok(());
     }
-    if code < 9223372036854775808 {
-        return 0;
-    }
-    field
+    Err(LineFault::new(Refusal::BadCell, field))
 }
 
-// The line of w attributes ends in its field of this number.
-// A wrong number of fields comes before a cell at fault.
-fn ended(w: usize, field: usize, bad: usize, next: usize) -> Line
-    requires { field ≤ w }
-    ensures { result ≡ ended_of w field bad next }
-{
-    if field < w {
-        return Line::BadLine(22, field + 1);
-    }
-    if bad != 0 {
-        return Line::BadLine(24, bad);
-    }
-    Line::Row(next)
+// The lines of a text whose rows have so many attributes.
+#[derive(Clone, Copy)]
+pub struct Lines<'a> {
+    pub text: &'a [u8],
+    pub width: usize,
+    ghost some: { 0 < width },
+    ghost few: { width < 64 },
+    ghost short: { length text.now < 2 ^ 63 },
 }
 
-// The line of a row of w attributes that begins at a place.
-pub fn row_line(text: &[u8], at: usize, w: usize) -> Line
-    requires { (at ≤ length text.now) × (0 < w) × (w < 64) }
-    ensures { LineSays w text.now at result }
-{
-    let mut i = at;
-    let mut field: usize = 0;
-    let mut bad: usize = 0;
-    while field < w {
-        match text::field_at(text, i) {
-            Fielded::ToComma(code, next) => {
-                bad = first_bad(bad, field + 1, code);
-                i = next;
-            }
-            Fielded::ToLine(code, next) => {
-                return ended(w, field + 1, first_bad(bad, field + 1, code), next);
-            }
-            Fielded::Nothing(code) => {
-                if field == 0 {
-                    return Line::End;
-                }
-                return ended(w, field + 1, first_bad(bad, field + 1, code), i);
-            }
-            Fielded::OutsideHere => return Line::BadLine(22, field + 1),
+impl<'a> Lines<'a> {
+    // The codes of the line that begins at a place.
+    pub fn codes(&self, at: usize) -> Codes<'a>
+        ensures { (result.text ≡ self.now.text) × (result.at ≡ at) × (result.left ≡ self.now.width) }
+    {
+        Codes {
+            text: self.text,
+            at,
+            left: self.width,
         }
-        field = field + 1;
     }
-    Line::BadLine(22, w + 1)
+
+    // Fills the cells from `start` on with the codes of the line that begins at a place.
+    pub fn fill_row(&self, at: usize, start: usize, cells: &mut [u64])
+        requires { start + self.now.width ≤ length cells.old }
+        ensures { cells.new ≡ over start (codes_at self.now.width self.now.text.now at) cells.old }
+    {
+        let mut k = start;
+        for code in self.codes(at) {
+            cells[k] = code;
+            k += 1;
+        }
+    }
+
+    // The line ends in its field of this number, and the next one begins at a place.
+    // A wrong number of fields comes before a cell at fault.
+    fn ended(
+        &self,
+        field: usize,
+        cells: Result<(), LineFault>,
+        next: usize,
+    ) -> Result<Option<usize>, LineFault>
+        requires { field ≤ self.now.width }
+        ensures { Ends self.now.width field cells next (line_in result) }
+    {
+        if field < self.width {
+            return Err(LineFault::new(Refusal::BadLine, field + 1));
+        }
+        cells?;
+        Ok(Some(next))
+    }
+
+    // The line that begins at a place: where the next one begins; nothing where the text ends here; or what is at fault.
+    pub fn read(&self, at: usize) -> Result<Option<usize>, LineFault>
+        requires { at ≤ length self.now.text.now }
+        ensures { LineSays self.now.width self.now.text.now at (line_in result) }
+    {
+        let mut place = at;
+        let mut cells = Ok(());
+        for k in 0..self.width {
+            let field = k + 1;
+            match text::field_at(self.text, place) {
+                Fielded::ToComma(code, next) => {
+                    cells = cells.and(cell(field, code));
+                    place = next;
+                }
+                Fielded::ToLine(code, next) => {
+                    return self.ended(field, cells.and(cell(field, code)), next);
+                }
+                Fielded::Nothing(_) if k == 0 => return Ok(None),
+                Fielded::Nothing(code) => {
+                    return self.ended(field, cells.and(cell(field, code)), place);
+                }
+                Fielded::OutsideHere => return Err(LineFault::new(Refusal::BadLine, field)),
+            }
+        }
+        Err(LineFault::new(Refusal::BadLine, self.width + 1))
+    }
 }

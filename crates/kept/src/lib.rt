@@ -2,40 +2,48 @@
 
 // Callers of the public calls, one for each, that promise what they were promised and do nothing else.
 // They are here for the check: a public contract that loses its promise, or says less, is not enough for its caller here. Nothing else calls them.
-ghost use Rattle.tables.specs.Checks.{Makes};
-ghost use Rattle.loader.specs.Load.{Loads};
+ghost use Rattle.tables.specs.Checks.{made_of, Makes};
+ghost use Rattle.loader.specs.Load.{loaded_of, Loads};
+ghost use Rattle.writer.specs.Written.{as_written};
 ghost use Rattle.writer.specs.Write.{Writes};
 ghost use Rattle.padding.specs.Covering.{Covers};
+ghost use Rattle.stream.specs.Answers.{open_answer_of, holding_open_answer_of, step_answer_of, holding_step_answer_of};
 ghost use Rattle.stream.specs.Promises.{Opens, Steps, OpensHolding, StepsHolding};
-ghost use Rattle.harbour.specs.Answers.{Nexts, NextsHolding};
+ghost use Rattle.harbour.specs.Answers.{next_answer_of, Nexts, NextsHolding};
 ghost use Rattle.door.specs.Door.{Checks};
+ghost use Rattle.hub.specs.Answers.{told_of};
 ghost use Rattle.hub.specs.Promises.{ChecksList};
 ghost use Rattle.abi.specs.Lists.{ListCall};
 ghost use Rattle.abi.specs.Calls.{LoadCall, MakeCall, WriteCall, CoversCall};
 ghost use Rattle.abi.specs.Streams.{OpenCall, NextCall, OpenHoldingCall, NextHoldingCall};
 
 use harbour::{
-    Catalogue, HoldingOpenAnswer, HoldingRecord, HoldingStepAnswer, ListVerdict, Loaded, Made,
-    NextAnswer, OpenAnswer, StepAnswer, StreamRecord, Written,
+    Catalogue, Fault, HoldingRecord, ListVerdict, NextAnswer, Opened, Refusal, Stepped,
+    StreamRecord,
 };
 
 // Calls `harbour::load`.
-pub fn load(image: &[u8], cells: &mut [u64]) -> Loaded
-    ensures { Loads image.now cells.old result cells.new }
+pub fn load(image: &[u8], cells: &mut [u64]) -> Result<Catalogue, Fault>
+    ensures { Loads image.now cells.old (loaded_of result) cells.new }
 {
     harbour::load(image, cells)
 }
 
 // Calls `harbour::make_catalogue`.
-pub fn make_catalogue(m: usize, n: usize, schemes: [u64; 8], rows: [u16; 8]) -> Made
-    ensures { Makes m n schemes rows result }
+pub fn make_catalogue(
+    m: usize,
+    n: usize,
+    schemes: [u64; 8],
+    rows: [u16; 8],
+) -> Result<Catalogue, Refusal>
+    ensures { Makes m n schemes rows (made_of result) }
 {
     harbour::make_catalogue(m, n, schemes, rows)
 }
 
 // Calls `harbour::write`.
-pub fn write(cat: Catalogue, cells: &[u64], out: &mut [u8]) -> Written
-    ensures { Writes cat cells.now out.old result out.new }
+pub fn write(cat: Catalogue, cells: &[u64], out: &mut [u8]) -> Result<usize, Refusal>
+    ensures { Writes cat cells.now out.old (as_written result) out.new }
 {
     harbour::write(cat, cells, out)
 }
@@ -48,8 +56,8 @@ pub fn open(
     high: &mut [u64],
     left: &mut [u16],
     right: &mut [u16],
-) -> OpenAnswer
-    ensures { Opens cat cells.now low.old high.old left.old right.old result low.new high.new left.new right.new }
+) -> Result<Opened<StreamRecord>, Refusal>
+    ensures { Opens cat cells.now low.old high.old left.old right.old (open_answer_of result) low.new high.new left.new right.new }
 {
     harbour::open(cat, cells, low, high, left, right)
 }
@@ -66,7 +74,7 @@ pub fn next(
     budget: usize,
     padded: &mut [u64],
 ) -> NextAnswer
-    ensures { Nexts cat cells.now low.old high.old left.old right.old stream.old budget padded.old result stream.new low.new high.new left.new right.new padded.new }
+    ensures { Nexts cat cells.now low.old high.old left.old right.old stream.old budget padded.old (next_answer_of result) stream.new low.new high.new left.new right.new padded.new }
 {
     harbour::next(cat, cells, low, high, left, right, stream, budget, padded)
 }
@@ -82,8 +90,8 @@ pub fn step(
     stream: StreamRecord,
     budget: usize,
     padded: &mut [u64],
-) -> StepAnswer
-    ensures { Steps cat cells.now low.old high.old left.old right.old stream budget padded.old result low.new high.new left.new right.new padded.new }
+) -> Stepped<StreamRecord>
+    ensures { Steps cat cells.now low.old high.old left.old right.old stream budget padded.old (step_answer_of result) low.new high.new left.new right.new padded.new }
 {
     harbour::step(cat, cells, low, high, left, right, stream, budget, padded)
 }
@@ -98,8 +106,8 @@ pub fn open_holding(
     right: &mut [u16],
     table: usize,
     row: usize,
-) -> HoldingOpenAnswer
-    ensures { OpensHolding cat cells.now low.old high.old left.old right.old table row result low.new high.new left.new right.new }
+) -> Result<Opened<HoldingRecord>, Refusal>
+    ensures { OpensHolding cat cells.now low.old high.old left.old right.old table row (holding_open_answer_of result) low.new high.new left.new right.new }
 {
     harbour::open_holding(cat, cells, low, high, left, right, table, row)
 }
@@ -116,7 +124,7 @@ pub fn next_holding(
     budget: usize,
     padded: &mut [u64],
 ) -> NextAnswer
-    ensures { NextsHolding cat cells.now low.old high.old left.old right.old stream.old budget padded.old result stream.new low.new high.new left.new right.new padded.new }
+    ensures { NextsHolding cat cells.now low.old high.old left.old right.old stream.old budget padded.old (next_answer_of result) stream.new low.new high.new left.new right.new padded.new }
 {
     harbour::next_holding(cat, cells, low, high, left, right, stream, budget, padded)
 }
@@ -132,8 +140,8 @@ pub fn step_holding(
     stream: HoldingRecord,
     budget: usize,
     padded: &mut [u64],
-) -> HoldingStepAnswer
-    ensures { StepsHolding cat cells.now low.old high.old left.old right.old stream budget padded.old result low.new high.new left.new right.new padded.new }
+) -> Stepped<HoldingRecord>
+    ensures { StepsHolding cat cells.now low.old high.old left.old right.old stream budget padded.old (holding_step_answer_of result) low.new high.new left.new right.new padded.new }
 {
     harbour::step_holding(cat, cells, low, high, left, right, stream, budget, padded)
 }
@@ -258,8 +266,8 @@ pub fn check_list(
     cells: &[u64],
     listed_low: &[u64],
     listed_high: &[u64],
-) -> ListVerdict
-    ensures { ChecksList cat cells.now listed_low.now listed_high.now result }
+) -> Result<ListVerdict, Refusal>
+    ensures { ChecksList cat cells.now listed_low.now listed_high.now (told_of result) }
 {
     harbour::check_list(cat, cells, listed_low, listed_high)
 }

@@ -1,7 +1,7 @@
 -- Worked keys: one row in each word's first and last table, and a spare bit of each word. By computing the definitions. Assumes nothing.
 use Prim.Native.Nat.{ℕ, ◌+◌, ◌*◌, ◌^◌}
 use mathlib.Core.Bool.{true, false}
-use mathlib.Core.List.{List, [], ◌∷◌}
+use mathlib.Core.List.{[], ◌∷◌}
 use mathlib.Core.Path.{◌≡◌, refl}
 use Rattle.words.specs.Words.{bit_of}
 use Rattle.keys.specs.Keys.{bits_per_row, row_of, key_of}

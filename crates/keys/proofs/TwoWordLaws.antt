@@ -1,9 +1,9 @@
 -- A key's two words and its number: each is read from the other, and the rows and bits of the number are those of the word that its table lies in.
 -- Over the bits w of a row, the s tables of the first word, and the bits of a word. Last, the same at the sizes of the machine. Assumes nothing.
-use Prim.Native.Nat.{ℕ, ◌+◌, ◌-◌, ◌*◌, ◌/◌, ◌%◌, ◌^◌, ◌≤◌, ◌<◌}
-use mathlib.Core.Path.{◌≡◌, sym, ap, ap₂, ◌∙◌, subst}
-use mathlib.Core.Bool.{Bool, true, false, not}
-use mathlib.Core.Logic.{◌⊎◌, inl, inr, ◌↔◌, ⊎_elim}
+use Prim.Native.Nat.{ℕ, ◌+◌, ◌*◌, ◌/◌, ◌%◌, ◌^◌, ◌≤◌, ◌<◌}
+use mathlib.Core.Path.{◌≡◌, sym, ap, ap₂, ◌∙◌}
+use mathlib.Core.Bool.{true, false, not, ◌&&◌}
+use mathlib.Core.Logic.{◌⊎◌, inl, inr, ◌↔◌}
 use native.Mathlib.Omega.{arith}
 use native.Mathlib.Decide.{dec_lt, ℕ_discrete}
 use native.Mathlib.Nat.{mod-lt, mul-add, add-mul, mul_assoc, mul-le-mul_right, suc-mul, one-mul, add_comm, mul-add-mod_self_right, le-div_iff_mul-le, div-eq_of_lt, mod-eq_of_lt, lt_of_lt_of_le}
@@ -53,16 +53,17 @@ module _ (b wide : ℕ) where
     sym (second-joined x y hy) ∙ ap (second_word b wide) e ∙ second-joined u v hv,
   )
 
-  -- The code's test, word by word, is the test of the numbers.
-  pub other-first : (x y u v : ℕ) → y < 2 ^ wide → v < 2 ^ wide → (x ≡ u → ⊥) → eqb (joined b wide x y) (joined b wide u v) ≡ false
-  other-first x y u v hy hv n = ne_eqb (joined b wide x y) (joined b wide u v) (λ e. n (joined-one x y u v hy hv e).0)
-
-  pub same_first : (x y u v : ℕ) → y < 2 ^ wide → v < 2 ^ wide → x ≡ u → eqb (joined b wide x y) (joined b wide u v) ≡ eqb y v
-  same_first x y u v hy hv e = go (ℕ_discrete y v)
+  -- The test of two pairs of words is that of their numbers.
+  pub joined_same : (x y u v : ℕ) → y < 2 ^ wide → v < 2 ^ wide → eqb x u && eqb y v ≡ eqb (joined b wide x y) (joined b wide u v)
+  joined_same x y u v hy hv = go (ℕ_discrete x u) (ℕ_discrete y v)
     where
-      go : Dec (y ≡ v) → eqb (joined b wide x y) (joined b wide u v) ≡ eqb y v
-      go (yes f) = eq-eqb (joined b wide x y) (joined b wide u v) (ap₂ (joined b wide) e f) ∙ sym (eq-eqb y v f)
-      go (no f) = ne_eqb (joined b wide x y) (joined b wide u v) (λ g. f (joined-one x y u v hy hv g).1) ∙ sym (ne_eqb y v f)
+      other : ((x ≡ u) × (y ≡ v) → ⊥) → false ≡ eqb (joined b wide x y) (joined b wide u v)
+      other n = sym (ne_eqb (joined b wide x y) (joined b wide u v) (λ e. n (joined-one x y u v hy hv e)))
+
+      go : Dec (x ≡ u) → Dec (y ≡ v) → eqb x u && eqb y v ≡ eqb (joined b wide x y) (joined b wide u v)
+      go (no n) e = rw (ne_eqb x u n) (other (λ h. n h.0))
+      go (yes d) (no n) = rw (eq-eqb x u d, ne_eqb y v n) (other (λ h. n h.1))
+      go (yes d) (yes e) = rw (eq-eqb x u d, eq-eqb y v e) (sym (eq-eqb (joined b wide x y) (joined b wide u v) (ap₂ (joined b wide) d e)))
 
   -- A number with room below both words' bits has no spare bit in the first: its words are its two parts.
   pub first_plain : (k : ℕ) → k < 2 ^ (wide + b) → first_word b wide k ≡ k % 2 ^ b
@@ -263,6 +264,22 @@ number-words k = joined_words bits_in_low bits_per_word k
 -- A key that is made of a number has that number.
 pub number-key : (k : ℕ) → number_of (key_with k) ≡ k
 number-key k = number-words k
+
+-- So the words of a key, whose second one has room in a machine word, are read off its number,
+pub key-low : (key : Key) → key.high < 2 ^ bits_per_word → key.low ≡ low_of (number_of key)
+key-low key h = sym (words-number key.low key.high h).0
+
+pub key-high : (key : Key) → key.high < 2 ^ bits_per_word → key.high ≡ high_of (number_of key)
+key-high key h = sym (words-number key.low key.high h).1
+
+-- and two keys with one number are one key; what `==` computes of them is the test of their numbers.
+pub key-one : (a b : Key) → a.high < 2 ^ bits_per_word → b.high < 2 ^ bits_per_word → number_of a ≡ number_of b → a ≡ b
+key-one a b ha hb e =
+    let w = joined-one bits_in_low bits_per_word a.low a.high b.low b.high ha hb e in
+    ap₂ (λ (x y : ℕ). let k : Key = record { low = x; high = y } in k) w.0 w.1
+
+pub key-same : (a b : Key) → a.high < 2 ^ bits_per_word → b.high < 2 ^ bits_per_word → eqb a.low b.low && eqb a.high b.high ≡ eqb (number_of a) (number_of b)
+key-same a b ha hb = joined_same bits_in_low bits_per_word a.low a.high b.low b.high ha hb
 
 -- The words of a set's key are its two parts, and have room in a machine word.
 pub key-words : (k : ℕ) → k < 2 ^ (bits_per_row * most_tables) → (low_of k ≡ k % 2 ^ bits_in_low) × (high_of k ≡ k / 2 ^ bits_in_low)

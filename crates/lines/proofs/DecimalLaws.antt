@@ -13,9 +13,11 @@ use lib.Seq.{get_or_at, drop-cons}
 use lib.Dec.{ltb}
 use borrow.Author.Tests.{ltb-true, lt-ltb, le-ltb}
 use Rattle.laws.proofs.TestLaws.{clash}
-use Rattle.lines.specs.Decimals.{digit, most_digits, decimal_in, decimal, worth, Spells, goes_on, word_from, word_of}
-use Rattle.lines.specs.declared.Word.{Word}
-use Rattle.lines.specs.declared.Word.TheVariants.{Number, Other}
+use Rattle.std.specs.Prelude.{Option, Some, None, cond}
+use Rattle.std.specs.Option.{SomeIff}
+use Rattle.std.specs.Fmt.{decimal as printed}
+use Rattle.std.proofs.lemmas.Fmt.{decimal_from_appends, length-decimal-le}
+use Rattle.lines.specs.Decimals.{digit, most_digits, decimal_in, decimal, worth, Spells, goes_on, word_from, word_of, Number, Other}
 
 more-in : (f x : ℕ) → 10 ≤ x → decimal_in (suc f) x ≡ decimal_in f (x / 10) ++ (digit (x % 10) ∷ [])
 more-in f x h = rw (le-ltb x 10 h)
@@ -42,6 +44,11 @@ decimal-more x l h = more-in 19 x l ∙ ap (λ (t : List ℕ). t ++ (digit (x % 
 
 pub decimal-length : (x : ℕ) → 10 ≤ x → x < 2 ^ 64 → length (decimal x) ≡ length (decimal (x / 10)) + 1
 decimal-length x l h = ap length (decimal-more x l h) ∙ length-append (decimal (x / 10)) (digit (x % 10) ∷ [])
+
+-- They are what the library prints.
+pub decimal-printed : (x : ℕ) → x < 2 ^ 64 → decimal x ≡ printed x
+unfolding decimal
+decimal-printed x h = decimal_from_appends decimal_in (record { one = last-in; more = more-in }) most_digits x h (length-decimal-le most_digits x (omega arith) (omega arith) h)
 
 few-in : (f x : ℕ) → length (decimal_in f x) ≤ f
 few-in zero x = omega arith
@@ -156,6 +163,27 @@ goes-fits v b e =
         | no h ↦ (omega arith, omega arith, ltb-true (v * 10 + (b - digit 0)) (2 ^ 64) (sym (goes-digit v b (omega arith) (omega arith)) ∙ e))
       ]
     ]
+
+-- A digit goes on if the sum fits.
+pub as-summed : (v b n : ℕ) (o : Option ℕ) → digit 0 ≤ b → b ≤ digit 9 → n ≡ v * 10 + (b - 48) → SomeIff o (n < 2 ^ 64) n
+    → o ≡ cond (goes_on v b) (Some (v * 10 + (b - 48))) None
+as-summed v b n None l h e k = rw (goes_over v b l h (omega arith))
+as-summed v b n (Some x) l h e (p, q) = rw (goes-under v b l h (omega arith)) (ap Some (q ∙ e))
+
+-- What the code says of a byte that goes on or does not.
+pub gone_none : (v b n : ℕ) (o : Option ℕ) → o ≡ cond (goes_on v b) (Some n) None → o ≡ None → goes_on v b ≡ false
+gone_none v b n o e p = by (goes_on v b) (sym p ∙ e)
+  where
+    by : (t : Bool) → None ≡ cond t (Some n) None → t ≡ false
+    by true q = absurd (let z : ◌≡◌ {A = Option ℕ} None (Some n) = q in cc)
+    by false q = refl
+
+pub gone_some : (v b n x : ℕ) (o : Option ℕ) → o ≡ cond (goes_on v b) (Some n) None → o ≡ Some x → (goes_on v b ≡ true) × (x ≡ n)
+gone_some v b n x o e p = by (goes_on v b) (sym p ∙ e)
+  where
+    by : (t : Bool) → Some x ≡ cond t (Some n) None → (t ≡ true) × (x ≡ n)
+    by true q = (refl, let z : ◌≡◌ {A = Option ℕ} (Some x) (Some n) = q in cc)
+    by false q = absurd (let z : ◌≡◌ {A = Option ℕ} (Some x) None = q in cc)
 
 word_more : (v b : ℕ) (bs : List ℕ) → goes_on v b ≡ true → word_from v (b ∷ bs) ≡ word_from (v * 10 + (b - digit 0)) bs
 unfolding word_from

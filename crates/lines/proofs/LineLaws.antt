@@ -3,37 +3,17 @@ use Prim.Native.Nat.{ℕ, zero, suc, ◌+◌, ◌-◌, ◌*◌, ◌≤◌, ◌<�
 use native.Mathlib.Omega.{arith}
 use native.Mathlib.Numerals.{add-one, sub-one}
 use mathlib.Core.Path.{◌≡◌, refl, sym, ap, ◌∙◌}
-use mathlib.Core.List.{List, [], ◌∷◌, ◌++◌, append_assoc}
-use lib.ListN.{length, take, drop, set, get_or, length-append, length-drop, drop_of_length-le}
-use lib.Seq.{length-take-le, take-set-le, drop-set-add, drop-set-lt, drop-cons, get_or-set_same, lt-length-set}
-use Rattle.laws.specs.Lists.{over, Placed}
-use Rattle.laws.proofs.ListLaws.{put-cons, put-nil, length-tab}
-use Rattle.laws.proofs.PlacedLaws.{placed-length, placed-rest}
+use mathlib.Core.List.{List, [], ◌∷◌, ◌++◌}
+use lib.ListN.{length, take, drop, get_or, length-append, drop_of_length-le}
+use lib.Seq.{length-take-le, drop-cons}
+use Rattle.laws.specs.Lists.{over}
+use Rattle.laws.proofs.ListLaws.{put-nil, length-tab}
+use Rattle.laws.proofs.PlacedLaws.{placed-rest}
 use Rattle.keys.specs.Keys.{bits_per_row, row_of, rows_in}
+use Rattle.lines.specs.declared.Cursor.{Cursor}
+use Rattle.lines.specs.Cursors.{HasRoom, Puts, SameBuffer}
 use Rattle.lines.specs.Lines.{bytes, most_field, set_room, field, value, each, fields, values, line, padded_end, set_line}
 use Rattle.lines.proofs.DecimalLaws.{decimal-few}
-
--- The element at a place is put there; those behind it stay.
-drop-set : (l : List ℕ) (k d : ℕ) → k < length l → drop k (set l k d) ≡ d ∷ drop (suc k) l
-drop-set l k d h = drop-cons (set l k d) k 0 (lt-length-set l k d h) ∙ rw (get_or-set_same l k d 0 h, drop-set-lt (suc k) l k d (omega arith))
-
--- The last of some bytes may be put first.
-pub over_last : (o bs : List ℕ) (a d : ℕ) → a + length bs < length o → over a (bs ++ (d ∷ [])) o ≡ over a bs (set o (a + length bs) d)
-over_last o bs a d h =
-    let k : length (bs ++ (d ∷ [])) ≡ suc (length bs) = length-append bs (d ∷ []) ∙ omega arith in
-    let e : drop (length bs) (drop a (set o (a + length bs) d)) ≡ d ∷ drop (suc (length bs)) (drop a o) =
-    rw (drop-set-add a o (length bs) d) (drop-set (drop a o) (length bs) d (simp length-drop (omega arith))) in
-    rw (k, e, take-set-le a o (a + length bs) d (omega arith)) (simp append_assoc)
-
--- The next byte of a word is put.
-pub word_next : (o ws : List ℕ) (a i : ℕ) → a < length o → i < length ws → over a (drop i ws) o ≡ over (a + 1) (drop (i + 1) ws) (set o a (get_or ws i 0))
-word_next o ws a i h l =
-    let d : drop i ws ≡ get_or ws i 0 ∷ drop (i + 1) ws = rw (add-one i) (drop-cons ws i 0 l) in
-    rw d (put-cons o a (get_or ws i 0) (drop (i + 1) ws) h)
-
--- None of it is left.
-pub word_none : (o ws : List ℕ) (a i : ℕ) → length ws ≤ i → over a (drop i ws) o ≡ o
-word_none o ws a i h = rw (drop_of_length-le ws {i = i} h) (put-nil o a)
 
 -- ---- fields
 
@@ -71,38 +51,37 @@ module _ (f : ℕ → List ℕ) (few : (x : ℕ) → length (f x) ≤ most_field
   unfolding each
   each_more xs i h = rw (drop-cons xs i 0 h, add-one i)
 
-  -- Where a loop over the k numbers xs stands that began at `start` of the bytes lent: it has put the first i of them, and what is left to put from
-  -- the cursor on is the whole answer.
-  pub record Run (xs : List ℕ) (k start : ℕ) (lent : List ℕ) (i at : ℕ) (now : List ℕ) : Type 0 where
+  -- Where a loop over the k numbers xs stands that began at cursor c: it has put the first i of them, and what is left to put from cursor d on is the
+  -- whole answer.
+  pub record Run (xs : List ℕ) (k : ℕ) (c : Cursor) (i : ℕ) (d : Cursor) : Type 0 where
     pub many : length xs ≡ k
     pub inside : i ≤ k
-    pub room : at + most_field * (k - i) ≤ length now
-    pub same : length now ≡ length lent
-    pub next : at + length (each f (drop i xs)) ≡ start + length (each f xs)
-    pub bytes : over start (each f xs) lent ≡ over at (each f (drop i xs)) now
+    pub room : d.at + most_field * (k - i) ≤ length d.out.now
+    pub next : d.at + length (each f (drop i xs)) ≡ c.at + length (each f xs)
+    pub bytes : over c.at (each f xs) c.out.now ≡ over d.at (each f (drop i xs)) d.out.now
+    pub same : SameBuffer c d
 
-  pub run_holds : (xs lent : List ℕ) (k start : ℕ) → length xs ≡ k → start + most_field * k ≤ length lent → Run xs k start lent 0 start lent
-  run_holds xs lent k start e h = record { many = e; inside = omega arith; room = omega arith; same = refl; next = refl; bytes = refl }
+  pub run_holds : (xs : List ℕ) (k : ℕ) (c : Cursor) → length xs ≡ k → HasRoom c (most_field * k) → Run xs k c 0 c
+  run_holds xs k c e h = record { many = e; inside = omega arith; room = omega arith; next = refl; bytes = refl; same = (refl, refl) }
 
-  pub run-next : {xs lent now after : List ℕ} {k start i at n x : ℕ} → i < k → x ≡ get_or xs i 0 → Run xs k start lent i at now → Placed (f x) at now n after
-      → Run xs k start lent (i + 1) n after
-  run-next {xs} {lent} {now} {after} {k} {start} {i} {at} {n} {x} h e r p =
-      let m : each f (drop i xs) ≡ f x ++ each f (drop (i + 1) xs) = rw e (each_more xs i (omega arith)) in
+  pub run-next : {xs : List ℕ} {c d e : Cursor} {k i x : ℕ} → i < k → x ≡ get_or xs i 0 → Run xs k c i d → Puts (f x) d e → SameBuffer d e
+      → Run xs k c (i + 1) e
+  run-next {xs} {c} {d} {e} {k} {i} {x} h y r p s =
+      let m : each f (drop i xs) ≡ f x ++ each f (drop (i + 1) xs) = rw y (each_more xs i (omega arith)) in
       let l = ap length m ∙ length-append (f x) (each f (drop (i + 1) xs)) in
-      let s = placed-length (omega (arith, few x)) p in
       record {
         many = r.many;
         inside = omega arith;
-        room = omega (arith, few x, p.next);
-        same = s ∙ r.same;
+        room = omega (arith, few x, p.next, s.1);
         next = omega (arith, p.next, r.next);
         bytes = r.bytes ∙ rw m (placed-rest (omega (arith, few x)) p (each f (drop (i + 1) xs)));
+        same = (s.0 ∙ r.same.0, s.1 ∙ r.same.1);
       }
 
-  pub run_ends : {xs lent now : List ℕ} {k start i at : ℕ} → k ≤ i → Run xs k start lent i at now → Placed (each f xs) start lent at now
-  run_ends {xs} {lent} {now} {k} {start} {i} {at} h r =
+  pub run_ends : {xs : List ℕ} {c d : Cursor} {k i : ℕ} → k ≤ i → Run xs k c i d → Puts (each f xs) c d
+  run_ends {xs} {c} {d} {k} {i} h r =
       let z = each_none xs i (omega arith) in
-      record { next = omega (arith, r.next, ap length z); bytes = sym (r.bytes ∙ rw z (put-nil now at)) }
+      record { next = omega (arith, r.next, ap length z); bytes = sym (r.bytes ∙ rw z (put-nil d.out.now d.at)) }
 
 -- How long the row numbers of a set and the values of its padded row are at most.
 pub rows_few : (n key : ℕ) → length (fields (rows_in bits_per_row n key)) ≤ most_field * n

@@ -1,8 +1,6 @@
 -- A number as text: its decimal digits, the highest first, no zero in front; and what a word says as a number. That the digits of a number are its value,
 -- and that they are read as that number, is in proofs/DecimalLaws. Assumes nothing.
-use Rattle.std.specs.Prelude.{ℕ, zero, suc, ◌+◌, ◌-◌, ◌*◌, ◌/◌, ◌%◌, ◌^◌, ◌≤◌, ◌<◌, ◌≡◌, List, [], ◌∷◌, ◌++◌, Bool, false, cond, length, get_or, ltb}
-use Rattle.lines.specs.declared.Word.{Word}
-use Rattle.lines.specs.declared.Word.TheVariants.{Number, Other}
+use Rattle.std.specs.Prelude.{ℕ, zero, suc, ◌+◌, ◌-◌, ◌*◌, ◌/◌, ◌%◌, ◌^◌, ◌≤◌, ◌<◌, ◌≡◌, List, [], ◌∷◌, ◌++◌, Bool, false, cond, length, get_or, ltb, Option, Some, None}
 
 -- The byte of a digit: that of 0 is 48, and they follow each other.
 abbrev pub digit : ℕ → ℕ
@@ -39,6 +37,16 @@ pub record Spells (x : ℕ) (bs : List ℕ) : Type 0 where
 -- The byte b goes on with a number, behind digits that are worth v: it is a digit, and with it they are worth less than 2 ^ 64.
 unfoldable pub goes_on : ℕ → ℕ → Bool
 goes_on v b = cond (ltb b (digit 0)) false (cond (ltb (digit 9) b) false (ltb (v * 10 + (b - digit 0)) (2 ^ 64)))
+
+-- What a word says: a number in decimal digits, or something else.
+pub data Word : Type 0 where
+  Number : (value : ℕ) → Word
+  Other : Word
+
+-- The same as the code says it.
+abbrev pub word_in : Option ℕ → Word
+word_in (Some x) = Number x
+word_in None = Other
 
 -- What bytes say behind digits that are worth v: a number, if each of them goes on with it.
 unfoldable pub word_from : ℕ → List ℕ → Word

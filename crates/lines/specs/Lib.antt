@@ -1,2 +1,3 @@
+pub mod Cursors
 pub mod Decimals
 pub mod Lines

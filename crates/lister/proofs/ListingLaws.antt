@@ -2,7 +2,9 @@
 -- input, and how long a line is at most. Assumes nothing.
 use Prim.Native.Nat.{ℕ, zero, suc, ◌+◌, ◌-◌, ◌≤◌, ◌<◌}
 use native.Mathlib.Omega.{arith}
+use native.Mathlib.Nat.{eq-zero-or-pos}
 use native.Mathlib.Numerals.{sub-one}
+use mathlib.Core.Logic.{⊎_elim}
 use mathlib.Core.Path.{◌≡◌, refl, sym, ap, ◌∙◌}
 use mathlib.Core.List.{List, [], ◌∷◌, ◌++◌, append_assoc, append-nil}
 use lib.ListN.{length, take, length-replicate}
@@ -11,29 +13,32 @@ use Rattle.laws.specs.Lists.{Placed}
 use Rattle.laws.proofs.PlacedLaws.{placed-length, placed-front}
 use Rattle.laws.proofs.ListLaws.{put-nil}
 use Rattle.keys.specs.TwoWords.{number_of}
+use Rattle.refusals.specs.declared.Refusal.{Refusal}
+use Rattle.refusals.specs.Refusals.{number}
+use Rattle.refusals.proofs.RefusalLaws.{number-some}
 use Rattle.tables.specs.declared.Catalogue.{Catalogue}
 use Rattle.tables.specs.Sizes.{most_attributes, most_cells}
 use Rattle.tables.specs.Catalogues.{total}
 use Rattle.tables.specs.Checks.{Lawful}
-use Rattle.loader.specs.declared.Fault.{Fault}
-use Rattle.loader.specs.declared.Verdict.{Verdict}
-use Rattle.loader.specs.declared.Verdict.TheVariants.{Good, Refused}
-use Rattle.loader.specs.declared.Loaded.{Loaded}
+use Rattle.loader.specs.Faults.{Fault, Verdict, Good, Refused, Loaded}
 use Rattle.loader.specs.Load.{scan_of, Loads}
 use Rattle.disjunction.specs.Asked.{Asked}
 use Rattle.machine.specs.Machine.{State, Says, a_set, finished, working, refused, Called, call, Opened, opening_for}
 use Rattle.machine.proofs.CountLaws.{Small, call-small}
+use Rattle.store.specs.declared.Store.{Store}
 use Rattle.stream.specs.declared.Scope.{Scope}
-use Rattle.stream.specs.Promises.{asked_of, state_with, says_of, called_with, opened_with}
+use Rattle.stream.specs.declared.StreamRecord.{StreamRecord}
+use Rattle.stream.specs.declared.Stepped.{Stepped}
+use Rattle.stream.specs.declared.Opened as stream
+use Rattle.stream.specs.Promises.{asked_of, says_of}
+use Rattle.stream.specs.Parts.{stream_in, called_in, opened_for}
 use Rattle.lines.specs.Lines.{tables_line, refused_line, too_long, bytes}
 use Rattle.lines.proofs.LineLaws.{line-few, set-few}
+use Rattle.std.proofs.Common.{Some, None, Ok, Err}
+use Rattle.tables.specs.declared.Tables.{Tables}
 use Rattle.lister.specs.declared.Standing.{Standing}
-use Rattle.lister.specs.declared.OpenedFor.{OpenedFor}
-use Rattle.lister.specs.declared.SteppedFor.{SteppedFor}
-use Rattle.lister.specs.declared.Got.{Got}
-use Rattle.lister.specs.declared.Got.TheVariants.{Bytes}
-use Rattle.lister.specs.Reading.{Read}
-use Rattle.lister.specs.Listing.{most_input, most_records, blank, most_calls, most_line, line_of, left_of, further, unless_refused, lines_of, tables_text, verdict_text, image_text, listing_of, OpensFor, StepsFor, to_come, text_from, filled_to, Ready, Gives, Printing}
+use Rattle.stream.specs.Answers.{answer_in, key_in}
+use Rattle.lister.specs.Listing.{most_input, most_records, blank, most_calls, most_line, line_of, left_of, further, unless_refused, lines_of, tables_text, verdict_text, image_text, listing_of, to_come, text_from, Ready, Lines, Gives, Printing}
 
 pub blank-length : (k : ℕ) → length (blank k) ≡ k
 unfolding blank
@@ -52,7 +57,8 @@ whole {bs} h p = behind [] (omega arith) p ∙ append-nil bs
 
 -- ---- a call
 
-left-few : (a : Says) (k : ℕ) → left_of a k ≤ k
+-- An answer leaves no more calls than there are.
+pub left-few : (a : Says) (k : ℕ) → left_of a k ≤ k
 left-few a_set k = omega arith
 left-few finished k = omega arith
 left-few working k = omega arith
@@ -88,21 +94,21 @@ module _ (cat : Catalogue) (cells : List ℕ) where
       rw (e, sub-one (suc k), further-left c.says k c.after c.row (a + c.trials) (t + c.tests) (l + c.looks))
 
   -- Whatever is called, its line fits the room that is kept for a line.
-  pub line-short : (x : Says) (key : ℕ) (row : List ℕ) (taken a t l : ℕ) → Lawful cat most_cells → length row ≡ most_attributes
+  pub line-short : (lent : ℕ) (x : Says) (key : ℕ) (row : List ℕ) (taken a t l : ℕ) → Lawful cat lent → length row ≡ most_attributes
       → length (line_of cat x key row taken a t l) ≤ most_line
-  line-short a_set key row taken a t l w e = omega (arith, set-few cat.n key cat.m row (omega (arith, w.attributes)), w.attributes, w.tables)
-  line-short finished key row taken a t l w e = omega (arith, line-few (bytes "end") (taken ∷ a ∷ t ∷ l ∷ []))
-  line-short working key row taken a t l w e = omega arith
-  line-short (refused r) key row taken a t l w e = omega (arith, line-few (bytes "refused") (r ∷ taken ∷ []))
+  line-short lent a_set key row taken a t l w e = omega (arith, set-few cat.n key cat.m row (omega (arith, w.attributes)), w.attributes, w.tables)
+  line-short lent finished key row taken a t l w e = omega (arith, line-few (bytes "end") (taken ∷ a ∷ t ∷ l ∷ []))
+  line-short lent working key row taken a t l w e = omega arith
+  line-short lent (refused r) key row taken a t l w e = omega (arith, line-few (bytes "refused") (r ∷ taken ∷ []))
 
   -- The line of a call is put, and what is still to come behind it comes: the text is what it was.
-  pub turned : {at n : ℕ} {lent after : List ℕ} (k : ℕ) (q : State) (row : List ℕ) (a t l : ℕ) (s : Called) → 0 < k → s ≡ call cat cells (total cat) q row
-      → Lawful cat most_cells → length s.row ≡ most_attributes → at + most_line ≤ length lent
+  pub turned : (lent' : ℕ) {at n : ℕ} {lent after : List ℕ} (k : ℕ) (q : State) (row : List ℕ) (a t l : ℕ) (s : Called) → 0 < k → s ≡ call cat cells (total cat) q row
+      → Lawful cat lent' → length s.row ≡ most_attributes → at + most_line ≤ length lent
       → Placed (line_of cat s.says s.key s.row s.after.taken (a + s.trials) (t + s.tests) (l + s.looks)) at lent n after
       → take n after ++ lines_of cat cells (left_of s.says (k - 1)) s.after s.row (a + s.trials) (t + s.tests) (l + s.looks)
       ≡ take at lent ++ lines_of cat cells k q row a t l
-  turned {at} {n} {lent} {after} k q row a t l s z e w f h p =
-      let b = line-short s.says s.key s.row s.after.taken (a + s.trials) (t + s.tests) (l + s.looks) w f in
+  turned lent' {at} {n} {lent} {after} k q row a t l s z e w f h p =
+      let b = line-short lent' s.says s.key s.row s.after.taken (a + s.trials) (t + s.tests) (l + s.looks) w f in
       behind (lines_of cat cells (left_of s.says (k - 1)) s.after s.row (a + s.trials) (t + s.tests) (l + s.looks)) (omega arith) p
       ∙ ap (λ (rest : List ℕ). take at lent ++ rest) (sym (lines_more k q row a t l s z e))
 
@@ -140,125 +146,109 @@ pub said-small : (cat : Catalogue) (cells row : List ℕ) (b : ℕ) (q : State) 
 said-small cat cells row b q s e = rw e (call-small cat cells row b q)
 
 -- A call was made on a list that can go on, and its line put behind what the buffer held.
-module _ (p : Standing) (cells low high left right row out low' high' left' right' row' out' : List ℕ) (r : SteppedFor) (b k n : ℕ)
-    (some : 0 < p.calls)
-    (w : Ready p cells row)
-    (room : p.filled + most_line ≤ length out)
+module _ (p : Standing) (store : Store) (row out : List ℕ) (store' : Store) (row' out' : List ℕ) (r : Stepped StreamRecord) (at k n : ℕ)
+    (w : Ready p row)
+    (room : at + most_line ≤ length out)
     (wide : length row' ≡ length row)
-    (budget : b ≡ total p.catalogue)
-    (called : StepsFor p.scope p.catalogue cells low high left right p.stream b row r low' high' left' right' row')
-    (left_over : k ≡ left_of (says_of r.answer.answer) (p.calls - 1))
-    (line : Placed (line_of p.catalogue (says_of r.answer.answer) (number_of r.answer.key) row' r.answer.stream.taken (p.trials + r.answer.trials) (p.tests + r.answer.tests) (p.looks + r.answer.looks)) p.filled out n out')
+    (called : called_in (asked_of p.scope) r store' row' ≡ call p.tables.catalogue p.tables.cells.now (total p.tables.catalogue) (stream_in (asked_of p.scope) p.stream store) row)
+    (left_over : k ≡ left_of (says_of (answer_in r.answer)) (p.calls - 1))
+    (line : Placed (line_of p.tables.catalogue (says_of (answer_in r.answer)) (number_of (key_in r.answer)) row' r.stream.taken (p.counts.trials + r.counts.trials) (p.counts.tests + r.counts.tests) (p.counts.looks + r.counts.looks)) at out n out')
   where
     abbrev next : Standing
     next =
         record {
-          catalogue = p.catalogue;
-          scope = r.scope;
-          stream = r.answer.stream;
-          trials = p.trials + r.answer.trials;
-          tests = p.tests + r.answer.tests;
-          looks = p.looks + r.answer.looks;
+          tables = p.tables;
+          scope = p.scope;
+          stream = r.stream;
+          counts = record { trials = p.counts.trials + r.counts.trials; tests = p.counts.tests + r.counts.tests; looks = p.counts.looks + r.counts.looks };
           calls = k;
-          filled = n;
         }
 
     abbrev s : Called
-    s = called_with (asked_of r.scope) r.answer low' high' left' right' row'
+    s = called_in (asked_of p.scope) r store' row'
 
-    fewer : k < p.calls
-    fewer = omega (arith, left-few (says_of r.answer.answer) (p.calls - 1))
-
-    goes : Ready next cells row'
-    goes =
-        let u = said-small p.catalogue cells row b (state_with (asked_of p.scope) p.stream low high left right) s called in
-        let v = left-few (says_of r.answer.answer) (p.calls - 1) in
+    goes : 0 < k → Ready next row'
+    goes h =
+        let u = said-small p.tables.catalogue p.tables.cells.now row (total p.tables.catalogue) (stream_in (asked_of p.scope) p.stream store) s called in
+        let v = left-few (says_of (answer_in r.answer)) (p.calls - 1) in
         record {
-          lawful = w.lawful;
-          lent = w.lent;
+          some = h;
           wide = wide ∙ w.wide;
           calls = omega (arith, w.calls);
-          trials = omega (arith, w.calls, w.trials, u.trials);
-          tests = omega (arith, w.calls, w.tests, u.tests);
-          looks = omega (arith, w.calls, w.looks, u.looks);
+          trials = omega (arith, w.some, w.calls, w.trials, u.trials);
+          tests = omega (arith, w.some, w.calls, w.tests, u.tests);
+          looks = omega (arith, w.some, w.calls, w.looks, u.looks);
         }
 
-    pub turn-gives : (k < p.calls) × Gives (text_from p cells low high left right row out) next cells low' high' left' right' row' out'
-    turn-gives =
-        let e = rw budget at called in
-        let g = wide ∙ w.wide in
-        let h = line-short p.catalogue cells s.says s.key s.row s.after.taken (p.trials + s.trials) (p.tests + s.tests) (p.looks + s.looks) w.lawful g in (
-          fewer,
-          record {
-            same = rw left_over (turned p.catalogue cells p.calls (state_with (asked_of p.scope) p.stream low high left right) row p.trials p.tests p.looks s some e w.lawful g room line);
-            filled = omega (arith, line.next, placed-length (omega arith) line);
-            ready = λ z. goes;
-          },
-        )
+    kept : take n out' ++ to_come next store' row' ≡ take at out ++ to_come p store row
+    kept = rw left_over (turned p.tables.catalogue p.tables.cells.now (length p.tables.cells.now) p.calls (stream_in (asked_of p.scope) p.stream store) row p.counts.trials p.counts.tests p.counts.looks s w.some called p.tables.lawful (wide ∙ w.wide) room line)
 
--- A list can go on as it could, however much its buffer holds.
-pub ready-filled : {p : Standing} {cells row : List ℕ} (n : ℕ) → Ready p cells row → Ready (filled_to p n) cells row
-ready-filled n w =
-    record {
-      lawful = w.lawful;
-      lent = w.lent;
-      wide = w.wide;
-      calls = w.calls;
-      trials = w.trials;
-      tests = w.tests;
-      looks = w.looks;
-    }
+    fits : n ≤ length out'
+    fits =
+        let h = line-short p.tables.catalogue p.tables.cells.now (length p.tables.cells.now) s.says s.key s.row s.after.taken (p.counts.trials + s.trials) (p.counts.tests + s.tests) (p.counts.looks + s.looks) p.tables.lawful (wide ∙ w.wide) in
+        omega (arith, line.next, placed-length (omega arith) line)
+
+    -- The list has ended, or it goes on.
+    pub turn-ends : k ≡ 0 → Gives (take at out ++ to_come p store row) (record { filled = n; more = None }) store' row' out'
+    turn-ends z =
+        record {
+          same = ap (λ (rest : List ℕ). take n out' ++ rest) (sym (lines_none p.tables.catalogue p.tables.cells.now k (stream_in (asked_of p.scope) r.stream store') row' _ _ _ z)) ∙ kept;
+          filled = fits;
+          ready = tt;
+        }
+
+    pub turn-goes : (k ≡ 0 → ⊥) → Gives (take at out ++ to_come p store row) (record { filled = n; more = Some next }) store' row' out'
+    turn-goes z = record { same = kept; filled = fits; ready = goes (omega (arith, z)) }
 
 -- What a list gives that gives a text, gives that text.
-pub gives-on : {text : List ℕ} {r s : Standing} {cells low high left right row out low' high' left' right' row' out' : List ℕ} → Gives text r cells low high left right row out
-    → Gives (text_from r cells low high left right row out) s cells low' high' left' right' row' out' → Gives text s cells low' high' left' right' row' out'
+pub gives-on : {text : List ℕ} {f : ℕ} {p : Standing} {s : Lines} {row out row' out' : List ℕ} {store store' : Store}
+    → Gives text (record { filled = f; more = Some p }) store row out
+    → Gives (take f out ++ to_come p store row) s store' row' out' → Gives text s store' row' out'
 gives-on g h = record { same = h.same ∙ g.same; filled = h.filled; ready = h.ready }
 
 -- Tables were loaded and opened, and the first line put into the buffer.
-pub open_gives : {n : ℕ} {lent after : List ℕ} (v : Scope) (cat : Catalogue) (cells low high left right : List ℕ) (r : OpenedFor) → Lawful cat most_cells → length cells ≡ most_cells
-    → OpensFor v cat cells (blank most_records) (blank most_records) (blank most_records) (blank most_records) r low high left right → r.answer.refusal ≡ 0
-    → most_line ≤ length lent → Placed (tables_line cat.m cat.n (total cat) r.answer.tests) 0 lent n after
-    → Gives (tables_text cat cells (asked_of v)) (record { catalogue = cat; scope = r.scope; stream = r.answer.stream; trials = 0; tests = 0; looks = 0; calls = most_calls; filled = n }) cells low high left right (blank most_attributes) after
-open_gives {n} {lent} {after} v cat cells low high left right r w z e g h p =
-    let b = line-few (bytes "tables") (cat.m ∷ cat.n ∷ total cat ∷ r.answer.tests ∷ []) in
+pub open_gives : {n : ℕ} {lent after : List ℕ} (v : Scope) (tables : Tables) (store : Store) (o : stream.Opened StreamRecord)
+    → opened_for (asked_of v) (Ok o) store.low.now store.high.now store.left.now store.right.now ≡ opening_for tables.catalogue tables.cells.now (asked_of v) (blank most_records) (blank most_records) (blank most_records) (blank most_records)
+    → most_line ≤ length lent → Placed (tables_line tables.catalogue.m tables.catalogue.n (total tables.catalogue) o.tests) 0 lent n after
+    → Gives (tables_text tables.catalogue tables.cells.now (asked_of v)) (record { filled = n; more = Some (record { tables = tables; scope = v; stream = o.stream; counts = record { trials = 0; tests = 0; looks = 0 }; calls = most_calls }) }) store (blank most_attributes) after
+open_gives {n} {lent} {after} v tables store o e h p =
+    let cat = tables.catalogue in
+    let b = line-few (bytes "tables") (cat.m ∷ cat.n ∷ total cat ∷ o.tests ∷ []) in
     record {
-      same = opened cat cells (asked_of v) (opened_with (asked_of r.scope) r.answer low high left right) e g h p;
+      same = opened cat tables.cells.now (asked_of v) (opened_for (asked_of v) (Ok o) store.low.now store.high.now store.left.now store.right.now) e refl h p;
       filled = omega (arith, p.next, placed-length (omega arith) p);
-      ready = λ _. record { lawful = w; lent = z; wide = blank-length most_attributes; calls = omega arith; trials = omega arith; tests = omega arith; looks = omega arith };
+      ready = record { some = omega arith; wide = blank-length most_attributes; calls = omega arith; trials = omega arith; tests = omega arith; looks = omega arith };
     }
 
 -- All of a text is in the buffer, and nothing is still to come.
-pub ended-gives : {bs lent after : List ℕ} (r : Standing) (cells low high left right row : List ℕ) (n : ℕ) → r.calls ≡ 0 → r.filled ≡ n → length bs ≤ length lent
-    → Placed bs 0 lent n after → Gives bs r cells low high left right row after
-ended-gives {bs} {lent} {after} r cells low high left right row n e f h p =
-    record {
-      same = rw (lines_none r.catalogue cells r.calls (state_with (asked_of r.scope) r.stream low high left right) row r.trials r.tests r.looks e, f) (whole h p);
-      filled = omega (arith, p.next, placed-length (omega arith) p);
-      ready = λ z. absurd (omega arith);
-    }
+pub ended-gives : {bs lent after : List ℕ} (store : Store) (row : List ℕ) (n : ℕ) → length bs ≤ length lent
+    → Placed bs 0 lent n after → Gives bs (record { filled = n; more = None }) store row after
+ended-gives {bs} {lent} {after} store row n h p =
+    record { same = whole h p; filled = omega (arith, p.next, placed-length (omega arith) p); ready = tt }
 
 -- Tables were loaded and not opened, and the line of the refusal put into the buffer.
-pub refused-gives : {n : ℕ} {lent after : List ℕ} (v : Scope) (cat : Catalogue) (cells low high left right : List ℕ) (r : OpenedFor) (s : Standing)
-    → OpensFor v cat cells (blank most_records) (blank most_records) (blank most_records) (blank most_records) r low high left right → 0 < r.answer.refusal
-    → most_line ≤ length lent → s.calls ≡ 0 → s.filled ≡ n → Placed (refused_line (r.answer.refusal ∷ [])) 0 lent n after
-    → Gives (tables_text cat cells (asked_of v)) s cells low high left right (blank most_attributes) after
-refused-gives {n} {lent} {after} v cat cells low high left right r s e z h f g p =
-    let b = line-few (bytes "refused") (r.answer.refusal ∷ []) in
-    rw (text-refused cat cells (asked_of v) (opened_with (asked_of r.scope) r.answer low high left right) e z)
-    (ended-gives s cells low high left right (blank most_attributes) n f g (omega arith) p)
+pub refused-gives : {n : ℕ} {lent after : List ℕ} (v : Scope) (cat : Catalogue) (cells : List ℕ) (store : Store) (x : Refusal)
+    → opened_for (asked_of v) (Err x) store.low.now store.high.now store.left.now store.right.now ≡ opening_for cat cells (asked_of v) (blank most_records) (blank most_records) (blank most_records) (blank most_records)
+    → most_line ≤ length lent → Placed (refused_line (number x ∷ [])) 0 lent n after
+    → Gives (tables_text cat cells (asked_of v)) (record { filled = n; more = None }) store (blank most_attributes) after
+refused-gives {n} {lent} {after} v cat cells store x e h p =
+    let f = line-few (bytes "refused") (number x ∷ []) in
+    let z : 0 < number x = ⊎_elim (λ k. absurd (number-some x k)) (λ q. q) (eq-zero-or-pos (number x)) in
+    rw (text-refused cat cells (asked_of v) (opened_for (asked_of v) (Err x) store.low.now store.high.now store.left.now store.right.now) e z)
+    (ended-gives store (blank most_attributes) n (omega (arith, f)) p)
 
 -- Nothing has been written yet.
-pub printing-first : {text : List ℕ} {p : Standing} {cells low high left right row out : List ℕ} → Gives text p cells low high left right row out
-    → Printing (text_from p cells low high left right row out) [] p cells low high left right row out
+pub printing-first : {text : List ℕ} {r : Lines} {store : Store} {row out : List ℕ} → Gives text r store row out
+    → Printing (text_from r store row out) [] r store row out
 printing-first g = record { whole = refl; filled = g.filled; ready = g.ready }
 
 -- What the buffer held has been written, and it was filled again.
-pub printing-next : {text w : List ℕ} {p r : Standing} {cells low high left right row out low' high' left' right' row' out' : List ℕ}
-    → Printing text w p cells low high left right row out → Gives (to_come p cells low high left right row) r cells low' high' left' right' row' out'
-    → Printing text (w ++ take p.filled out) r cells low' high' left' right' row' out'
-printing-next {text} {w} {p} {r} {cells} {low} {high} {left} {right} {row} {out} i g =
+pub printing-next : {text w : List ℕ} {q r : Lines} {row out row' out' : List ℕ} {store store' : Store} (p : Standing) → q.more ≡ Some p
+    → Printing text w q store row out → Gives (to_come p store row) r store' row' out'
+    → Printing text (w ++ take q.filled out) r store' row' out'
+printing-next {text} {w} {q} {r} {row} {out} p e i g =
     record {
-      whole = append_assoc w (take p.filled out) _ ∙ ap (λ (rest : List ℕ). w ++ (take p.filled out ++ rest)) g.same ∙ i.whole;
+      whole = append_assoc w (take q.filled out) _ ∙ ap (λ (rest : List ℕ). w ++ (take q.filled out ++ rest)) g.same ∙ rw e at i.whole;
       filled = g.filled;
       ready = g.ready;
     }
@@ -295,18 +285,3 @@ module _ (a : Asked) where
 
     pub image-refused : (f : Fault) → r.verdict ≡ Refused f → image_text a s ≡ refused_line (f.refusal ∷ f.place ∷ [])
     image-refused f e = text ∙ ap (λ (v : Verdict). verdict_text a v r.catalogue after) e
-
--- ---- reading
-
-take-few : (k : ℕ) (l : List ℕ) → length (take k l) ≤ k
-take-few zero l = omega arith
-take-few (suc k) [] = omega arith
-take-few (suc k) (x ∷ l) = omega (arith, take-few k l)
-
--- No more bytes came than were lent,
-pub read-bytes : (r : Got) (n k : ℕ) → Read r k → r ≡ Bytes n → n ≤ k
-read-bytes r n k h e = rw e at h
-
--- as a part of others too.
-pub read-few : (r : Got) (n k : ℕ) (l : List ℕ) → Read r (length (take k l)) → r ≡ Bytes n → n ≤ k
-read-few r n k l h e = omega (arith, take-few k l, read-bytes r n (length (take k l)) h e)

@@ -1,23 +1,20 @@
 -- What the programs print, as one definition from what is asked for and the bytes of standard input to the bytes of standard output, and where a program
 -- stands in it: the listing asks for every set, `holding` for those that hold one row. Assumes nothing.
-use Rattle.std.specs.Prelude.{ℕ, zero, suc, ◌+◌, ◌-◌, ◌*◌, ◌≤◌, ◌<◌, ◌≡◌, cond, List, [], ◌∷◌, ◌++◌, length, take, replicate, ltb}
+use Rattle.std.specs.Prelude.{ℕ, zero, suc, ◌+◌, ◌-◌, ◌*◌, ◌≤◌, ◌<◌, ◌≡◌, cond, List, [], ◌∷◌, ◌++◌, length, take, replicate, ltb, Option, Some, None}
 use Rattle.keys.specs.Keys.{bits_per_row, rows_in}
 use Rattle.tables.specs.declared.Catalogue.{Catalogue}
 use Rattle.tables.specs.Sizes.{most_attributes, most_tables, most_cells, most_total}
 use Rattle.tables.specs.Catalogues.{total}
-use Rattle.tables.specs.Checks.{Lawful}
-use Rattle.loader.specs.declared.Verdict.{Verdict}
-use Rattle.loader.specs.declared.Verdict.TheVariants.{Good, Refused}
+use Rattle.loader.specs.Faults.{Verdict, Good, Refused}
 use Rattle.loader.specs.Load.{first_table, scan_of, tables_codes, cells_after}
 use Rattle.disjunction.specs.Asked.{Asked}
 use Rattle.machine.specs.Machine.{most_tests, most_looks, State, Says, a_set, finished, working, refused, call, opening_for}
-use Rattle.stream.specs.declared.StreamRecord.{StreamRecord}
-use Rattle.stream.specs.Promises.{asked_of, state_with, called_with, opened_with}
+use Rattle.store.specs.declared.Store.{Store}
+use Rattle.stream.specs.Promises.{asked_of}
+use Rattle.stream.specs.Parts.{stream_in}
+use Rattle.lines.specs.declared.Cursor.{Cursor}
 use Rattle.lines.specs.Lines.{tables_line, set_line, end_line, refused_line, too_long, set_room}
-use Rattle.stream.specs.declared.Scope.{Scope}
 use Rattle.lister.specs.declared.Standing.{Standing}
-use Rattle.lister.specs.declared.OpenedFor.{OpenedFor}
-use Rattle.lister.specs.declared.SteppedFor.{SteppedFor}
 
 -- "Reads at most 65,536 bytes of standard input as an image"; of longer input one byte more is read.
 abbrev pub most_input : ℕ
@@ -98,63 +95,62 @@ module _ (a : Asked) where
   unfoldable pub listing_of : List ℕ → List ℕ
   listing_of input = cond (ltb most_input (length input)) too_long (image_text input)
 
--- ---- open and a call, of the stream that is asked for
-
--- Open, of the stream of every set or of those that hold a row; and what the stream is asked for from then on.
-abbrev pub OpensFor : Scope → Catalogue → List ℕ → List ℕ → List ℕ → List ℕ → List ℕ → OpenedFor → List ℕ → List ℕ → List ℕ → List ℕ → Type 0
-OpensFor v cat cells low high left right r low' high' left' right' =
-    opened_with (asked_of r.scope) r.answer low' high' left' right' ≡ opening_for cat cells (asked_of v) low high left right
-
--- A call of such a stream.
-abbrev pub StepsFor :
-    Scope → Catalogue → List ℕ → List ℕ → List ℕ → List ℕ → List ℕ → StreamRecord → ℕ → List ℕ → SteppedFor → List ℕ → List ℕ → List ℕ → List ℕ → List ℕ
-    → Type 0
-StepsFor v cat cells low high left right s budget row r low' high' left' right' row' =
-    called_with (asked_of r.scope) r.answer low' high' left' right' row' ≡ call cat cells budget (state_with (asked_of v) s low high left right) row
-
 -- ---- where the program stands
 
--- The lines that are still to come from where a list stands.
-abbrev pub to_come : Standing → List ℕ → List ℕ → List ℕ → List ℕ → List ℕ → List ℕ → List ℕ
-to_come p cells low high left right row =
-    lines_of p.catalogue cells p.calls (state_with (asked_of p.scope) p.stream low high left right) row p.trials p.tests p.looks
+-- The store as a list begins with it.
+abbrev pub Zeros : Store → Type 0
+Zeros s = (s.low.now ≡ blank most_records) × (s.high.now ≡ blank most_records) × (s.left.now ≡ blank most_records) × (s.right.now ≡ blank most_records)
+
+-- How much of the buffer is filled, and where the list stands behind that: nowhere once it has ended.
+pub record Lines : Type 0 where
+  pub filled : ℕ
+  pub more : Option Standing
+
+-- The lines that are still to come from where a list stands, ..
+abbrev pub to_come : Standing → Store → List ℕ → List ℕ
+to_come p store row =
+    lines_of p.tables.catalogue p.tables.cells.now p.calls (stream_in (asked_of p.scope) p.stream store) row p.counts.trials p.counts.tests p.counts.looks
+
+-- .. and none where it has ended.
+abbrev pub more_to_come : Option Standing → Store → List ℕ → List ℕ
+more_to_come None store row = []
+more_to_come (Some p) store row = to_come p store row
 
 -- What the buffer holds and has not been written, and the lines that are still to come.
-abbrev pub text_from : Standing → List ℕ → List ℕ → List ℕ → List ℕ → List ℕ → List ℕ → List ℕ → List ℕ
-text_from p cells low high left right row out = take p.filled out ++ to_come p cells low high left right row
+abbrev pub text_from : Lines → Store → List ℕ → List ℕ → List ℕ
+text_from r store row out = take r.filled out ++ more_to_come r.more store row
 
--- Where it stands when its buffer is filled up to n, and all else is as it was.
-abbrev pub filled_to : Standing → ℕ → Standing
-filled_to p n =
-    record {
-      catalogue = p.catalogue;
-      scope = p.scope;
-      stream = p.stream;
-      trials = p.trials;
-      tests = p.tests;
-      looks = p.looks;
-      calls = p.calls;
-      filled = n;
-    }
+-- What the buffer is filled with up to a cursor, and where the list stands behind that.
+abbrev pub lines_at : Cursor → Option Standing → Lines
+lines_at c more = record { filled = c.at; more = more }
 
--- A list can go on from where it stands: its tables are lawful, the lent row has room for their attributes, and the counts are those of calls so far.
-pub record Ready (p : Standing) (cells row : List ℕ) : Type 0 where
-  pub lawful : Lawful p.catalogue most_cells
-  pub lent : length cells ≡ most_cells
+-- The calls that are left: none where it has ended.
+abbrev pub calls_in : Option Standing → ℕ
+calls_in None = 0
+calls_in (Some p) = p.calls
+
+-- A list can go on from where it stands: a call is left, the lent row has room for the attributes of its tables, and the counts are those of calls so far.
+pub record Ready (p : Standing) (row : List ℕ) : Type 0 where
+  pub some : 0 < p.calls
   pub wide : length row ≡ most_attributes
   pub calls : p.calls ≤ most_calls
-  pub trials : p.trials ≤ (most_calls - p.calls) * most_total
-  pub tests : p.tests ≤ (most_calls - p.calls) * (most_total * most_tests)
-  pub looks : p.looks ≤ (most_calls - p.calls) * (most_total * most_looks)
+  pub trials : p.counts.trials ≤ (most_calls - p.calls) * most_total
+  pub tests : p.counts.tests ≤ (most_calls - p.calls) * (most_total * most_tests)
+  pub looks : p.counts.looks ≤ (most_calls - p.calls) * (most_total * most_looks)
+
+-- The same, unless it has ended.
+abbrev pub ReadyUnlessEnded : Option Standing → List ℕ → Type 0
+ReadyUnlessEnded None row = Unit
+ReadyUnlessEnded (Some p) row = Ready p row
 
 -- A call of the lister gives this text: what the buffer then holds, and the lines that are still to come; and the list can go on.
-pub record Gives (text : List ℕ) (r : Standing) (cells low high left right row out : List ℕ) : Type 0 where
-  pub same : text_from r cells low high left right row out ≡ text
+pub record Gives (text : List ℕ) (r : Lines) (store : Store) (row out : List ℕ) : Type 0 where
+  pub same : text_from r store row out ≡ text
   pub filled : r.filled ≤ length out
-  pub ready : 0 < r.calls → Ready r cells row
+  pub ready : ReadyUnlessEnded r.more row
 
 -- w has been written, and with what the buffer holds and what is still to come it is the whole text; and the list can go on.
-pub record Printing (text w : List ℕ) (p : Standing) (cells low high left right row out : List ℕ) : Type 0 where
-  pub whole : w ++ text_from p cells low high left right row out ≡ text
-  pub filled : p.filled ≤ length out
-  pub ready : 0 < p.calls → Ready p cells row
+pub record Printing (text w : List ℕ) (r : Lines) (store : Store) (row out : List ℕ) : Type 0 where
+  pub whole : w ++ text_from r store row out ≡ text
+  pub filled : r.filled ≤ length out
+  pub ready : ReadyUnlessEnded r.more row

@@ -2,15 +2,13 @@
 
 // The listing program: reads an image from standard input and prints the row sets of its tables.
 // It lends the list all the room that it works in.
-use lister::{Got, Scope};
+use lister::Scope;
 
 // Reads standard input and lists it as an image: every set, in a store that starts as zeros.
 fn main(rt: HostRuntime) {
     let mut input = [0u8; 65537];
-    let got = lister::read_input(&rt, &mut input);
-    match got {
-        Got::Bytes(n) => list(&rt, &input[..n]),
-        Got::Failed => {}
+    if let Some(n) = lister::read_input(&rt, &mut input) {
+        list(&rt, &input[..n]);
     }
 }
 

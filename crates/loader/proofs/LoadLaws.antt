@@ -3,31 +3,26 @@ use Prim.Native.Nat.{ℕ, zero, suc, ◌+◌, ◌-◌, ◌*◌, ◌<◌, ◌≤�
 use native.Mathlib.Decide.{dec_lt, ℕ_discrete}
 use native.Mathlib.Omega.{arith}
 use native.Mathlib.Numerals.{sub-one}
-use mathlib.Core.Path.{◌≡◌, refl, sym, ◌∙◌}
+use mathlib.Core.Path.{◌≡◌, refl, sym, ap, ◌∙◌}
 use mathlib.Core.List.{List}
 use mathlib.Core.Bool.{Bool, true, false}
 use lib.ListN.{length, set, replicate}
 use lib.Count.{ones}
 use borrow.Author.Tests.{lt-ltb, le-ltb}
 use Rattle.numbers.specs.Numbers.{decode}
-use Rattle.numbers.specs.declared.Reading.{Reading}
-use Rattle.numbers.specs.declared.Reading.TheVariants.{Number, NumberFault}
+use Rattle.numbers.specs.Readings.{Reading, Number, NumberFault}
 use Rattle.tables.specs.Sizes.{most_attributes, most_tables, most_rows, version_one, version_two}
 use Rattle.tables.specs.declared.Catalogue.{Catalogue}
 use Rattle.tables.specs.Checks.{outside, bad_scheme, count_fault, table_fault}
-use Rattle.tables.specs.Versions.{most_rows_in, needless}
+use Rattle.tables.specs.declared.Version.{Version}
+use Rattle.tables.specs.declared.Version.TheVariants.{One, Two}
+use Rattle.tables.specs.Versions.{version_number, most_rows_in, needless}
 use Rattle.tables.proofs.VersionLaws.{most-in}
 use Rattle.tables.proofs.CheckLaws.{inside, below, above, count-good, fault-counted, Clear, fault-clear}
 use Rattle.tables.proofs.CheckLaws as checks
-use Rattle.loader.specs.declared.Fault.{Fault}
-use Rattle.loader.specs.declared.Walk.{Walk}
-use Rattle.loader.specs.declared.Walk.TheVariants.{To, WalkFault}
-use Rattle.loader.specs.declared.Field.{Field}
-use Rattle.loader.specs.declared.Field.TheVariants.{Value, FieldFault}
-use Rattle.loader.specs.declared.Entry.{Entry}
-use Rattle.loader.specs.declared.Entry.TheVariants.{Table, TableFault}
-use Rattle.loader.specs.declared.Verdict.TheVariants.{Good}
-use Rattle.loader.specs.Reading.{refusal_at, rows_from}
+use Rattle.loader.specs.Faults.{Fault, Walk, To, WalkFault, Field, Value, FieldFault, Entry, Table, TableFault, Good}
+use Rattle.loader.specs.Reading.{refusal_at, number_at, rows_from}
+use Rattle.loader.proofs.ReadingLaws.{read-bad}
 use Rattle.tables.specs.Catalogues.{filled, given}
 use Rattle.loader.specs.Load.{refused, field_at, on_fault, entry_of, count_at, table_at, tables_end, tables_from, scan_of}
 
@@ -69,6 +64,14 @@ module _ (s : List ℕ) (v room m used i : ℕ) where
   pub table-count : (x n : ℕ) → decode s i ≡ Number x n → bad_scheme m x ≡ false → table_at s v room m used i ≡ count_at s v room x used n
   unfolding table_at
   table-count x n e b = rw (e, b)
+
+-- ---- where a number cannot be read
+
+pub count-unread : (s : List ℕ) (v room x used i : ℕ) (f : Fault) → FieldFault f ≡ number_at s i → count_at s v room x used i ≡ TableFault f
+count-unread s v room x used i f e = let d = read-bad s i f e in count-bad s v room x used i d.0 d.1 d.2 ∙ ap TableFault (sym d.3)
+
+pub table-unread : (s : List ℕ) (v room m used i : ℕ) (f : Fault) → FieldFault f ≡ number_at s i → table_at s v room m used i ≡ TableFault f
+table-unread s v room m used i f e = let d = read-bad s i f e in table-bad s v room m used i d.0 d.1 d.2 ∙ ap TableFault (sym d.3)
 
 -- ---- what a good table is
 
@@ -182,6 +185,20 @@ module _ (s : List ℕ) (i low high f : ℕ) where
   pub field_in : (x n : ℕ) → decode s i ≡ Number x n → outside low high x ≡ false → field_at s i low high f ≡ Value x n
   unfolding field_at
   field_in x n e h = rw (e, h)
+
+pub field-unread : (s : List ℕ) (i low high k : ℕ) (f : Fault) → FieldFault f ≡ number_at s i → field_at s i low high k ≡ FieldFault f
+field-unread s i low high k f e = let d = read-bad s i f e in field-bad s i low high k d.0 d.1 d.2 ∙ ap FieldFault (sym d.3)
+
+-- the version that an image begins with, as the code reads it
+pub version-in : (s : List ℕ) (n : ℕ) (v : Version) → decode s 0 ≡ Number (version_number v) n → field_at s 0 version_one version_two 3 ≡ Value (version_number v) n
+version-in s n One d = field_in s 0 version_one version_two 3 version_one n d (inside version_one version_two version_one (omega arith) (omega arith))
+version-in s n Two d = field_in s 0 version_one version_two 3 version_two n d (inside version_one version_two version_two (omega arith) (omega arith))
+
+pub version-out : (s : List ℕ) (x n : ℕ) → decode s 0 ≡ Number x n → (x ≡ version_one → ⊥) → (x ≡ version_two → ⊥) → field_at s 0 version_one version_two 3 ≡ FieldFault (refusal_at 3 0 0)
+version-out s x n d h k = field_out s 0 version_one version_two 3 x n d out
+  where
+    out : outside version_one version_two x ≡ true
+    out = elim (dec_lt x version_one) [ yes l ↦ below version_one version_two x l | no l ↦ above version_one version_two x (omega arith) (omega arith) ]
 
 pub no_field : {A : Type 0} (o : Field) (f : Fault) (x n : ℕ) → o ≡ FieldFault f → o ≡ Value x n → A
 no_field o f x n a b = absurd (let z : ◌≡◌ {A = ℕ} 0 1 = cc in omega arith)

@@ -11,8 +11,7 @@ use lib.ListN.{length, set, replicate}
 use lib.Count.{ones}
 use lib.Dec.{ltb}
 use Rattle.numbers.specs.Numbers.{decode}
-use Rattle.numbers.specs.declared.Reading.{Reading}
-use Rattle.numbers.specs.declared.Reading.TheVariants.{Number, NumberFault}
+use Rattle.numbers.specs.Readings.{Reading, Number, NumberFault}
 use Rattle.numbers.proofs.DecodeLaws.{Near, decode-near}
 use Rattle.tables.specs.Sizes.{most_attributes, most_tables, most_cells, version_one, version_two}
 use Rattle.tables.specs.Rows.{below}
@@ -20,14 +19,7 @@ use Rattle.tables.specs.Checks.{outside, bad_scheme, count_fault}
 use Rattle.tables.specs.declared.Catalogue.{Catalogue}
 use Rattle.tables.specs.Versions.{most_rows_in, needless, blank}
 use Rattle.tables.proofs.CheckLaws.{fault-counted}
-use Rattle.loader.specs.declared.Walk.{Walk}
-use Rattle.loader.specs.declared.Walk.TheVariants.{To, WalkFault}
-use Rattle.loader.specs.declared.Field.{Field}
-use Rattle.loader.specs.declared.Field.TheVariants.{Value, FieldFault}
-use Rattle.loader.specs.declared.Entry.{Entry}
-use Rattle.loader.specs.declared.Entry.TheVariants.{Table, TableFault}
-use Rattle.loader.specs.declared.Verdict.{Verdict}
-use Rattle.loader.specs.declared.Verdict.TheVariants.{Good, Refused}
+use Rattle.loader.specs.Faults.{Walk, To, WalkFault, Field, Value, FieldFault, Entry, Table, TableFault, Verdict, Good, Refused}
 use Rattle.loader.specs.Reading.{refusal_at, on_number, on_walk, run_end, codes, rows_from}
 use Rattle.tables.specs.Catalogues.{filled, given}
 use Rattle.loader.specs.Load.{refused, field_at, on_field, entry_of, count_at, table_at, on_entry, tables_end, tables_from, scan_of, farthest, NearFault, NearVerdict}

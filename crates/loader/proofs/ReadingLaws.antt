@@ -4,49 +4,85 @@ use Prim.Native.Nat.{ℕ, zero, suc, ◌+◌, ◌-◌, ◌*◌, ◌<◌, ◌≤�
 use native.Mathlib.Nat.{zero-mul, suc-mul, zero-add}
 use native.Mathlib.Omega.{arith}
 use native.Mathlib.Numerals.{sub-one}
-use mathlib.Core.Path.{◌≡◌, refl, ap, ◌∙◌}
+use mathlib.Core.Path.{◌≡◌, refl, sym, ap, ◌∙◌}
 use mathlib.Core.List.{List, [], ◌∷◌, ◌++◌}
 use mathlib.Core.Bool.{Bool, true, false, cond, ◌||◌}
 use lib.ListN.{length}
+use mathlib.Core.Logic.{◌⊎◌, inl, inr}
+use Rattle.std.specs.Prelude.{Option, None, Some, Result, Ok, Err, IsOk}
+use Rattle.std.specs.Result.{MatchResult}
 use Rattle.numbers.specs.Numbers.{decode}
-use Rattle.numbers.specs.declared.Reading.{Reading}
-use Rattle.numbers.specs.declared.Reading.TheVariants.{Number, NumberFault}
+use Rattle.numbers.specs.Readings.{Reading, Number, NumberFault}
 use Rattle.tables.specs.Rows.{below}
 use Rattle.tables.specs.Versions.{blank}
-use Rattle.loader.specs.declared.Fault.{Fault}
-use Rattle.loader.specs.declared.Walk.{Walk}
-use Rattle.loader.specs.declared.Walk.TheVariants.{To, WalkFault}
-use Rattle.loader.specs.Reading.{refusal_at, on_number, on_walk, run_end, codes, rows_from}
+use Rattle.numbers.specs.declared.Number.{Number as NumberRead}
+use Rattle.loader.specs.declared.Fault.{Fault as FaultMet}
+use Rattle.loader.specs.Faults.{fault_of, walk_of, field_of, Fault, Walk, To, WalkFault, Value, FieldFault}
+use Rattle.loader.specs.Reading.{refusal_at, on_number, number_at, on_walk, run_end, codes, rows_from}
+
+-- ---- what a result says, by cases
+
+pub result-cases : {A E : Type 0} (r : Result A E) (P : A → Type 0) (Q : E → Type 0) → MatchResult r P Q → ((x : A) × (r ≡ Ok x) × P x) ⊎ ((e : E) × (r ≡ Err e) × Q e)
+result-cases (Ok x) P Q h = inl (x, refl, h)
+result-cases (Err e) P Q h = inr (e, refl, h)
+
+-- ---- what the image's reader of a number says
+
+pub read-good : (s : List ℕ) (i x n : ℕ) → Value x n ≡ number_at s i → decode s i ≡ Number x n
+read-good s i x n e = of (decode s i) refl e
+  where
+    of : (d : Reading) → decode s i ≡ d → Value x n ≡ on_number d Value (λ k c. FieldFault (refusal_at k i c)) → decode s i ≡ Number x n
+    of (Number y m) d e = cc
+    of (NumberFault k c) d e = cc
+
+pub read-bad : (s : List ℕ) (i : ℕ) (f : Fault) → FieldFault f ≡ number_at s i → (k : ℕ) × (c : ℕ) × (decode s i ≡ NumberFault k c) × (f ≡ refusal_at k i c)
+read-bad s i f e = of (decode s i) refl e
+  where
+    of : (d : Reading) → decode s i ≡ d → FieldFault f ≡ on_number d Value (λ k c. FieldFault (refusal_at k i c))
+        → (k : ℕ) × (c : ℕ) × (decode s i ≡ NumberFault k c) × (f ≡ refusal_at k i c)
+    of (Number y m) d e = cc
+    of (NumberFault k c) d e = (k, c, d, cc)
+
+-- what is known to be there is read
+pub ok-read : (r : Result NumberRead FaultMet) (s : List ℕ) (i x n : ℕ) → field_of r ≡ number_at s i → decode s i ≡ Number x n → IsOk r
+ok-read (Ok y) s i x n e d = refl
+ok-read (Err f) s i x n e d = let z : FieldFault (fault_of f) ≡ Value x n = rw d at e in cc
+
+pub ok-walk : (r : Result ℕ FaultMet) (e : ℕ) → walk_of r ≡ To e → IsOk r
+ok-walk (Ok n) e q = refl
+ok-walk (Err f) e q = cc
+
+-- ---- runs and rows
 
 pub run_none : (k : ℕ) (s : List ℕ) (i : ℕ) → k ≤ 0 → run_end k s i ≡ To i
 unfolding run_end
 run_none zero s i z = refl
 run_none (suc k) s i z = absurd (omega arith)
 
-pub run_more : (k : ℕ) (s : List ℕ) (i x n : ℕ) → 0 < k → decode s i ≡ Number x n → run_end k s i ≡ run_end (k - 1) s n
+pub run_more : (k : ℕ) (s : List ℕ) (i x n : ℕ) → 0 < k → Value x n ≡ number_at s i → run_end k s i ≡ run_end (k - 1) s n
 unfolding run_end
 run_more zero s i x n z e = absurd (omega arith)
-run_more (suc k) s i x n z e = rw (sub-one (suc k), e)
+run_more (suc k) s i x n z e = let d = read-good s i x n e in rw (sub-one (suc k), d)
 
-pub run-bad : (k : ℕ) (s : List ℕ) (i f c : ℕ) → 0 < k → decode s i ≡ NumberFault f c → run_end k s i ≡ WalkFault (refusal_at f i c)
+pub run-bad : (k : ℕ) (s : List ℕ) (i : ℕ) (f : Fault) → 0 < k → FieldFault f ≡ number_at s i → run_end k s i ≡ WalkFault f
 unfolding run_end
-run-bad zero s i f c z e = absurd (omega arith)
-run-bad (suc k) s i f c z e = rw e
+run-bad zero s i f z e = absurd (omega arith)
+run-bad (suc k) s i f z e = let d = read-bad s i f e in rw d.2 (ap WalkFault (sym d.3))
 
 pub codes-none : (k : ℕ) (s : List ℕ) (i : ℕ) → k ≤ 0 → codes k s i ≡ []
 unfolding codes
 codes-none zero s i z = refl
 codes-none (suc k) s i z = absurd (omega arith)
 
-pub codes-more : (k : ℕ) (s : List ℕ) (i x n : ℕ) → 0 < k → decode s i ≡ Number x n → codes k s i ≡ x ∷ codes (k - 1) s n
+pub codes-more : (k : ℕ) (s : List ℕ) (i x n : ℕ) → 0 < k → Value x n ≡ number_at s i → codes k s i ≡ x ∷ codes (k - 1) s n
 unfolding codes
 codes-more zero s i x n z e = absurd (omega arith)
-codes-more (suc k) s i x n z e = rw (sub-one (suc k), e)
+codes-more (suc k) s i x n z e = let d = read-good s i x n e in rw (sub-one (suc k), d)
 
-pub codes-bad : (k : ℕ) (s : List ℕ) (i f c : ℕ) → decode s i ≡ NumberFault f c → codes k s i ≡ []
+pub codes-bad : (k : ℕ) (s : List ℕ) (i : ℕ) (f : Fault) → FieldFault f ≡ number_at s i → codes k s i ≡ []
 unfolding codes
-codes-bad zero s i f c e = refl
-codes-bad (suc k) s i f c e = rw e
+codes-bad zero s i f e = refl
+codes-bad (suc k) s i f e = let d = read-bad s i f e in rw d.2
 
 -- one row more
 pub rows_none : (k w : ℕ) (s : List ℕ) (v : ℕ) (b : Bool) (p i : ℕ) → k ≤ 0 → rows_from k w s v b p i ≡ To i
@@ -76,6 +112,16 @@ pub rows-fall : (k w : ℕ) (s : List ℕ) (v : ℕ) (b : Bool) (p i n : ℕ) �
 unfolding rows_from
 rows-fall zero w s v b p i n z e h t = absurd (omega arith)
 rows-fall (suc k) w s v b p i n z e h t = rw (e, h, t)
+
+-- ---- the row before the next, as the code has it: none before the first
+
+abbrev pub is_first : Option ℕ → Bool
+is_first None = true
+is_first (Some p) = false
+
+abbrev pub row_before : Option ℕ → ℕ
+row_before None = 0
+row_before (Some p) = p
 
 -- ---- runs that end well
 

@@ -4,30 +4,26 @@ use native.Mathlib.Omega.{arith}
 use native.Mathlib.Numerals.{sub-one}
 use native.Mathlib.Decide.{dec_lt}
 use mathlib.Core.Path.{◌≡◌, refl, sym, ap, ◌∙◌}
-use mathlib.Core.List.{List, [], ◌++◌}
+use mathlib.Core.List.{List, [], ◌++◌, append-nil}
+use Rattle.laws.specs.Lists.{put, over}
 use mathlib.Core.Bool.{Bool, true, false}
-use lib.ListN.{length, set, get_or, replicate}
+use lib.ListN.{length, set, get_or, replicate, take, drop, length-take, length-drop, drop_of_length-le}
 use lib.Count.{ones}
 use Rattle.numbers.specs.Numbers.{decode}
-use Rattle.numbers.specs.declared.Reading.TheVariants.{Number, NumberFault}
+use Rattle.numbers.specs.Readings.{Number}
 use Rattle.numbers.proofs.EncodeLaws.{encode-last}
-use Rattle.numbers.proofs.DecodeLaws.{no_number}
 use Rattle.numbers.proofs.RoundTrip.{encode-decode}
 use Rattle.tables.specs.declared.Catalogue.{Catalogue}
 use Rattle.tables.specs.Sizes.{most_attributes, most_tables, most_rows, version_one, version_two}
 use Rattle.tables.specs.Catalogues.{filled, given}
 use Rattle.tables.specs.Versions.{needless}
-use Rattle.loader.specs.declared.Fault.{Fault}
-use Rattle.loader.specs.declared.Walk.TheVariants.{To}
-use Rattle.loader.specs.declared.Field.{Field}
-use Rattle.loader.specs.declared.Field.TheVariants.{Value, FieldFault}
-use Rattle.loader.specs.declared.Entry.{Entry}
-use Rattle.loader.specs.declared.Entry.TheVariants.{Table, TableFault}
-use Rattle.loader.specs.declared.Verdict.TheVariants.{Good, Refused}
-use Rattle.loader.specs.declared.Loaded.{Loaded}
-use Rattle.loader.specs.Reading.{refusal_at, run_end, codes}
+use Rattle.std.specs.Prelude.{Result, IsOk}
+use Rattle.numbers.specs.declared.Number.{Number as NumberRead}
+use Rattle.loader.specs.declared.Fault.{Fault as FaultMet}
+use Rattle.loader.specs.Faults.{field_of, Fault, To, Field, Value, FieldFault, Entry, Table, TableFault, Good, Refused, Loaded}
+use Rattle.loader.specs.Reading.{refusal_at, number_at, run_end, codes}
 use Rattle.loader.specs.Load.{first_table, field_at, table_at, tables_end, tables_from, scan_of, tables_codes, Sound, none, more, Fillable}
-use Rattle.loader.proofs.ReadingLaws.{codes-length, rows_run}
+use Rattle.loader.proofs.ReadingLaws.{ok-read, codes-length, rows_run}
 use Rattle.loader.proofs.LoadLaws.{GoodTable, good-table, good-clear, end-over, end-needless, end-good, tables-last, tables-bad, tables_more, good-field, head-version, head-m, head-n, head-good}
 
 -- ---- the codes of the tables
@@ -42,6 +38,15 @@ pub codes-table : (k : ℕ) (s : List ℕ) (i x n c q e : ℕ) → 0 < k → dec
 unfolding tables_codes
 codes-table zero s i x n c q e z a b d = absurd (omega arith)
 codes-table (suc k) s i x n c q e z a b d = rw (sub-one (suc k), a, b, d)
+
+-- The part of xs from a to e was lent, and came back as ys, which bs fills. The left side is what the borrow checker says of the slice.
+pub part-filled : (a e : ℕ) (xs bs ys : List ℕ) → e ≤ length xs → a + length bs ≡ e → ys ≡ put bs (take (e - a) (drop a xs))
+    → take a xs ++ (ys ++ drop (e - a) (drop a xs)) ≡ over a bs xs
+part-filled a e xs bs ys h k q =
+    let n : e - a ≡ length bs = omega arith in
+    let l : length (take (e - a) (drop a xs)) ≡ length bs = simp (length-take, length-drop) (omega arith) in
+    let z : drop (length bs) (take (e - a) (drop a xs)) ≡ [] = drop_of_length-le (take (e - a) (drop a xs)) {i = length bs} (omega arith) in
+    rw (q, z, append-nil, n)
 
 -- ---- the next table of a sound image
 
@@ -72,14 +77,16 @@ module _ (s : List ℕ) (room k used i : ℕ) (z : 0 < k) (F : Fillable s room k
   next : Next s F.0 room F.1 k used i
   next = sound-next s F.0 room F.1 k used i z F.2
 
-  pub no-scheme : {A : Type 0} (f l : ℕ) → decode s i ≡ NumberFault f l → A
-  no-scheme f l d = no_number _ f l _ _ d next.table.scheme
+  -- its scheme can be read
+  pub scheme-ok : (r : Result NumberRead FaultMet) → field_of r ≡ number_at s i → IsOk r
+  scheme-ok r e = ok-read r s i _ _ e next.table.scheme
 
-  pub no-count : {A : Type 0} (x n f l : ℕ) → decode s i ≡ Number x n → decode s n ≡ NumberFault f l → A
-  no-count x n f l a d =
+  -- and its count behind the scheme
+  pub count-ok : (x n : ℕ) → decode s i ≡ Number x n → (r : Result NumberRead FaultMet) → field_of r ≡ number_at s n → IsOk r
+  count-ok x n a r e =
       let b = next.table.scheme in
-      let q : n ≡ next.table.n = cc in
-      no_number (decode s next.table.n) f l next.c next.table.q (rw q at d) next.table.count
+      let q : next.table.n ≡ n = cc in
+      ok-read r s n _ _ e (rw q at next.table.count)
 
   pub turn : (x n c q w : ℕ) → decode s i ≡ Number x n → decode s n ≡ Number c q → w ≡ ones x → Turn s room k used i c q w
   turn x n c q w a b y =

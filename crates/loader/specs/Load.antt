@@ -1,7 +1,7 @@
 -- "Load reports the first fault in reading order: a number's own faults (1, 2) as it is read, then its meaning; at a row count 6, then 8;
 -- 7 after the row's last cell." Refusals stand in the order in which they are met; request #107 puts 17 where 2 was, #110 puts 20 "after all else",
 -- and #111 puts 21 before 7. Assumes nothing.
-use Rattle.std.specs.Prelude.{ℕ, zero, suc, ◌+◌, ◌*◌, ◌≤◌, ◌≡◌, List, [], ◌++◌, true, cond, length, set, replicate, ltb}
+use Rattle.std.specs.Prelude.{ℕ, zero, suc, ◌+◌, ◌*◌, ◌≤◌, ◌≡◌, List, [], ◌++◌, true, cond, length, set, replicate, ltb, Result, Ok, Err}
 use Rattle.std.specs.Int.Count.{ones}
 use Rattle.laws.specs.Lists.{put}
 use Rattle.numbers.specs.Numbers.{decode}
@@ -10,16 +10,8 @@ use Rattle.tables.specs.Catalogues.{filled, given, no_tables}
 use Rattle.tables.specs.Sizes.{most_attributes, most_tables, version_one, version_two}
 use Rattle.tables.specs.Checks.{outside, bad_scheme, count_fault}
 use Rattle.tables.specs.Versions.{most_rows_in, needless}
-use Rattle.loader.specs.declared.Fault.{Fault}
-use Rattle.loader.specs.declared.Walk.{Walk}
-use Rattle.loader.specs.declared.Walk.TheVariants.{To, WalkFault}
-use Rattle.loader.specs.declared.Field.{Field}
-use Rattle.loader.specs.declared.Field.TheVariants.{Value, FieldFault}
-use Rattle.loader.specs.declared.Entry.{Entry}
-use Rattle.loader.specs.declared.Entry.TheVariants.{Table, TableFault}
-use Rattle.loader.specs.declared.Verdict.{Verdict}
-use Rattle.loader.specs.declared.Verdict.TheVariants.{Good, Refused}
-use Rattle.loader.specs.declared.Loaded.{Loaded}
+use Rattle.loader.specs.declared.Fault.{Fault as FaultMet}
+use Rattle.loader.specs.Faults.{fault_of, Fault, Walk, To, WalkFault, Field, Value, FieldFault, Entry, Table, TableFault, Verdict, Good, Refused, Loaded}
 use Rattle.loader.specs.Reading.{refusal_at, on_number, run_end, codes, rows_from}
 
 -- The version, m and n of a good image are below 128 and take one byte each, so its first table is at place 3.
@@ -29,6 +21,11 @@ first_table = 3
 -- What a load gives that is refused by a fault: "a refusal gives a catalogue of zeros".
 abbrev pub refused : Fault → Loaded
 refused f = record { verdict = Refused f; catalogue = no_tables }
+
+-- What the code's answer to a load is.
+abbrev pub loaded_of : Result Catalogue FaultMet → Loaded
+loaded_of (Ok cat) = record { verdict = Good; catalogue = cat }
+loaded_of (Err f) = refused (fault_of f)
 
 -- The number at place i and the place behind it, where it lies in its range; else its own refusal, or the one given.
 unfoldable pub field_at : List ℕ → ℕ → ℕ → ℕ → ℕ → Field

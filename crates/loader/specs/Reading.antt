@@ -2,13 +2,10 @@
 -- fault in reading order ends it. Assumes nothing.
 use Rattle.std.specs.Prelude.{ℕ, zero, suc, List, [], ◌∷◌, Bool, false, cond, ◌||◌}
 use Rattle.numbers.specs.Numbers.{decode}
-use Rattle.numbers.specs.declared.Reading.{Reading}
-use Rattle.numbers.specs.declared.Reading.TheVariants.{Number, NumberFault}
+use Rattle.numbers.specs.Readings.{Reading, Number, NumberFault}
 use Rattle.tables.specs.Rows.{below}
 use Rattle.tables.specs.Versions.{blank}
-use Rattle.loader.specs.declared.Fault.{Fault}
-use Rattle.loader.specs.declared.Walk.{Walk}
-use Rattle.loader.specs.declared.Walk.TheVariants.{To, WalkFault}
+use Rattle.loader.specs.Faults.{Fault, Walk, To, WalkFault, Field, Value, FieldFault}
 
 -- The refusal k at place p. Request #107: the number reader hands "back how many bytes it looked at; the loader passes both on, with count 0 under
 -- other refusals".
@@ -19,6 +16,10 @@ refusal_at k p looked = record { refusal = k; place = p; looked = looked }
 abbrev pub on_number : {A : Type 0} → Reading → (ℕ → ℕ → A) → (ℕ → ℕ → A) → A
 on_number (Number x n) go refuse = go x n
 on_number (NumberFault k c) go refuse = refuse k c
+
+-- The number at place i and the place behind it, or its own refusal there.
+abbrev pub number_at : List ℕ → ℕ → Field
+number_at s i = on_number (decode s i) Value (λ k c. FieldFault (refusal_at k i c))
 
 -- Go on from the place that a walk came to.
 abbrev pub on_walk : Walk → (ℕ → Walk) → Walk

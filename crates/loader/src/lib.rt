@@ -1,8 +1,14 @@
 #![tactic(auto)]
 
 // The loader: an image's catalogue, and its cells into those lent. It goes in two passes: the first decides and touches nothing, the second fills.
-ghost use Rattle.loader.specs.Load.{Loads};
+ghost use Rattle.std.specs.Prelude.{◌≡◌};
+ghost use Rattle.refusals.specs.Refusals.{number};
+ghost use Rattle.loader.specs.Reading.{refusal_at, number_at};
+ghost use Rattle.loader.specs.Faults.{fault_of, field_of};
+ghost use Rattle.loader.specs.Load.{loaded_of, Loads};
 
+use numbers::Number;
+use refusals::Refusal;
 use tables::Catalogue;
 
 mod filler;
@@ -10,62 +16,53 @@ mod scanner;
 
 pub use scanner::scan;
 
-// Why an image is refused: the number of the refusal, its place, and how many bytes of a number that is at fault by itself were looked at, else 0.
-// Every answer that may be a refusal holds one, so that what a refusal tells is said here alone.
-#[derive(Clone, Copy)]
+// Why an image is refused: the refusal, its place, and how many bytes of a number that is at fault by itself were looked at, else 0.
+#[derive(Clone, Copy, PartialEq, Eq, Debug)]
 pub struct Fault {
-    pub refusal: usize,
+    pub refusal: Refusal,
     pub place: usize,
     pub looked: usize,
 }
 
-// The place that a walk came to, or its fault.
-#[derive(Clone, Copy)]
-pub enum Walk {
-    To(usize),
-    WalkFault(Fault),
+impl Fault {
+    // A refusal that is no number's own, at a place.
+    fn at(refusal: Refusal, place: usize) -> Fault
+        ensures { fault_of result ≡ refusal_at (number refusal) place 0 }
+    {
+        Fault {
+            refusal,
+            place,
+            looked: 0,
+        }
+    }
 }
 
-// A number of the image's head and the place behind it, or its fault.
+// A table's scheme, its row count, the cells with it and the place behind it.
 #[derive(Clone, Copy)]
-pub enum Field {
-    Value(u64, usize),
-    FieldFault(Fault),
-}
-
-// A table's scheme, its row count, the cells with it and the place behind it, or its fault.
-#[derive(Clone, Copy)]
-pub enum Entry {
-    Table(u64, u16, usize, usize),
-    TableFault(Fault),
-}
-
-// What the loader says of an image: good, or its first fault.
-#[derive(Clone, Copy)]
-pub enum Verdict {
-    Good,
-    Refused(Fault),
-}
-
-// The answer of a load: the verdict, and the catalogue, which is all zeros where the image is refused.
-#[derive(Clone, Copy)]
-pub struct Loaded {
-    pub verdict: Verdict,
-    pub catalogue: Catalogue,
+pub struct Table {
+    pub scheme: u64,
+    pub rows: u16,
+    pub used: usize,
+    pub next: usize,
 }
 
 // Loads an image: its catalogue, and its cells into the front of those lent.
 // A refused image leaves the cells as they were, so they are filled only behind a good first pass.
-pub fn load(image: &[u8], cells: &mut [u64]) -> Loaded
-    ensures { Loads image.now cells.old result cells.new }
+pub fn load(image: &[u8], cells: &mut [u64]) -> Result<Catalogue, Fault>
+    ensures { Loads image.now cells.old (loaded_of result) cells.new }
 {
-    let r = scan(image, cells.len());
-    let verdict = r.verdict;
-    match verdict {
-        Verdict::Good => {
-            filler::fill(image, r.catalogue.n, cells);
-            r
-        }
-        Verdict::Refused(_) => r,
-    }
+    let catalogue = scan(image, cells.len())?;
+    filler::fill(image, catalogue.n, cells);
+    Ok(catalogue)
+}
+
+// The number at a place, or its own refusal there.
+fn number_at(s: &[u8], at: usize) -> Result<Number, Fault>
+    ensures { field_of result ≡ number_at s.now at }
+{
+    numbers::read(s, at).map_err(|fault| Fault {
+        refusal: fault.refusal,
+        place: at,
+        looked: fault.looked,
+    })
 }

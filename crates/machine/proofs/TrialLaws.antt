@@ -21,10 +21,7 @@ use Rattle.rows.specs.Named.{named}
 use Rattle.rows.proofs.WorldLaws.{world-symmetric, rows-total, row-place}
 use Rattle.rows.proofs.NamedLaws.{named-iff, named-valid}
 use Rattle.store.specs.Store.{Store, store_in, room_in, search_of, added, filed, answer_of, store_after, Holds, OfferPost}
-use Rattle.store.specs.declared.Looked.{Looked}
-use Rattle.store.specs.declared.Looked.TheVariants.{Found, Absent, Damaged}
-use Rattle.store.specs.declared.Placed.{Placed}
-use Rattle.store.specs.declared.Placed.TheVariants.{Known, Added, Full, Broken}
+use Rattle.store.specs.Looks.{Looked, Found, Absent, Damaged, Placed, Known, Added, Full, Broken}
 use Rattle.store.proofs.LookLaws.{Inside}
 use Rattle.store.proofs.StoreLaws.{search-inside, refused-stays, room-added}
 use Rattle.machine.specs.Machine.{State, state_for, key_at, Trial, done, full, damaged, raised, placed, offered, offered_if, deepest, trial_due, trial_on, Fit, first_grown}

@@ -14,8 +14,7 @@ use Rattle.rows.specs.World.{cells_in, world_of, set_of}
 use Rattle.rows.specs.Named.{named, There, rows_there}
 use Rattle.store.specs.Store as stores
 use Rattle.store.specs.Store.{Store, store_in, room_in, search_of, filed, answer_of, store_after}
-use Rattle.store.specs.declared.Placed.{Placed}
-use Rattle.store.specs.declared.Placed.TheVariants.{Known, Added, Full, Broken}
+use Rattle.store.specs.Looks.{Placed, Known, Added, Full, Broken}
 
 -- ---- the state
 

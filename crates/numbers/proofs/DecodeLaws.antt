@@ -1,6 +1,6 @@
 -- The equations of decode_in, one for each way that the reader goes, and the bounds of its weight. Assumes nothing.
 use Prim.Native.Nat.{ℕ, zero, suc, ◌+◌, ◌-◌, ◌*◌, ◌^◌, ◌<◌, ◌≤◌}
-use native.Mathlib.Nat.{pow-suc, mul-le-mul_left, mul-le-mul_right, mul_assoc, mul_comm}
+use native.Mathlib.Nat.{pow-suc, pow-le-pow_right, one-le-pow, mul-le-mul_right}
 use native.Mathlib.Omega.{arith}
 use native.Mathlib.Numerals.{sub-one}
 use mathlib.Core.Path.{◌≡◌, refl}
@@ -9,8 +9,7 @@ use mathlib.Core.Bool.{Bool, true, false, cond, ◌&&◌}
 use lib.ListN.{length, get_or}
 use lib.Dec.{ltb, leb, eqb}
 use borrow.Author.Tests.{lt-ltb, lt-leb, le-leb, eq-eqb}
-use Rattle.numbers.specs.declared.Reading.{Reading}
-use Rattle.numbers.specs.declared.Reading.TheVariants.{Number, NumberFault}
+use Rattle.numbers.specs.Readings.{Reading, Number, NumberFault}
 use Rattle.numbers.specs.Numbers.{most_bytes, decode_in, decode}
 
 pub decode-none : (f w v : ℕ) (s : List ℕ) (i : ℕ) → f ≤ 0 → decode_in f w v s i ≡ NumberFault 17 most_bytes
@@ -42,20 +41,21 @@ decode-more (suc f) w v s i p h l = rw (sub-one (suc f), lt-leb (length s) i h, 
 pub no_number : {A : Type 0} (o : Reading) (k c r n : ℕ) → o ≡ NumberFault k c → o ≡ Number r n → A
 no_number o k c r n p q = absurd (let z : ◌≡◌ {A = ℕ} 0 1 = cc in omega arith)
 
--- a weight with room for f groups more
+-- a weight is not 0
 pub pos128 : (f : ℕ) → 1 ≤ 128 ^ f
-pos128 zero = omega arith
-pos128 (suc f) = omega (arith, pow-suc 128 f, pos128 f)
+pos128 f = one-le-pow f 128 (omega arith)
 
-pub room : (f w : ℕ) → 0 < f → w * 128 ^ f ≤ 2 ^ 63 → w * 128 ≤ 2 ^ 63
-room zero w p h = absurd (omega arith)
-room (suc f) w p h =
-    let a : 128 ≤ 128 ^ suc f = omega (arith, pow-suc 128 f, pos128 f) in
-    omega (arith, mul-le-mul_left w a)
+-- the weight of a group that is allowed, with the next
+pub room : (t w : ℕ) → t < most_bytes → w ≡ 128 ^ t → w * 128 ≤ 2 ^ 63
+room t w h e =
+    let p : 0 < 128 = omega arith in
+    let q : suc t ≤ most_bytes = omega arith in
+    omega (arith, e, pow-suc 128 t, pow-le-pow_right p q)
 
-pub less-room : (f w : ℕ) → 0 < f → w * 128 ^ f ≤ 2 ^ 63 → w * 128 * 128 ^ (f - 1) ≤ 2 ^ 63
-less-room zero w p h = absurd (omega arith)
-less-room (suc f) w p h = rw (sub-one (suc f), mul_assoc, mul_comm 128 (128 ^ f), ← pow-suc 128 f) h
+-- only the first group weighs 1
+pub heavier : (t w : ℕ) → 0 < t → w ≡ 128 ^ t → 1 < w
+heavier zero w h e = absurd (omega arith)
+heavier (suc t) w h e = omega (arith, e, pow-suc 128 t, pos128 t)
 
 -- a group is at most 127
 pub group : (g w : ℕ) → g < 128 → g * w ≤ 127 * w

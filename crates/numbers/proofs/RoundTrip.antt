@@ -11,7 +11,7 @@ use lib.ListN.{length, get_or, drop, length-append}
 use lib.Seq.{get_or_at, drop-cons}
 use lib.Dec.{ltb, eqb}
 use borrow.Author.Tests.{le-ltb, ne_eqb}
-use Rattle.numbers.specs.declared.Reading.TheVariants.{Number}
+use Rattle.numbers.specs.Readings.{Number}
 use Rattle.numbers.specs.Numbers.{most_bytes, encode_in, encode, decode_in, decode}
 use Rattle.numbers.proofs.EncodeLaws.{more-in, last-in}
 use Rattle.numbers.proofs.DecodeLaws.{decode-end, decode-zero, decode-last, decode-more, pos128, no_number}

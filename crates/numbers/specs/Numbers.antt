@@ -2,8 +2,7 @@
 -- nine bytes at most." What follows from the two definitions, that each undoes the other, stands in proofs/RoundTrip. Assumes nothing.
 use Rattle.std.specs.Prelude.{ℕ, zero, suc, ◌+◌, ◌-◌, ◌*◌, ◌/◌, ◌%◌, ◌≡◌, List, [], ◌∷◌, cond, ◌&&◌, length, get_or, ltb, leb, eqb}
 use Rattle.laws.specs.Lists.{put}
-use Rattle.numbers.specs.declared.Reading.{Reading}
-use Rattle.numbers.specs.declared.Reading.TheVariants.{Number, NumberFault}
+use Rattle.numbers.specs.Readings.{Reading, Number, NumberFault}
 
 -- "nine bytes at most": a number is below 2 ^ 63.
 abbrev pub most_bytes : ℕ

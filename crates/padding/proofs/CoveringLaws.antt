@@ -1,17 +1,22 @@
--- What covering says: `covering-iff`, from the laws of `all` and of codes past a row's end; one law for each way that the walk over the codes goes;
--- and that covering is an order on rows. Assumes nothing.
-use Prim.Native.Nat.{ℕ, ◌<◌}
+-- What covering says: `covering-iff`, from the laws of `all` and of codes past a row's end; covering by pairs of codes; and that covering is an order on
+-- rows. Assumes nothing.
+use Prim.Native.Nat.{ℕ, zero, suc, ◌≤◌, ◌<◌}
 use native.Mathlib.Omega.{arith}
 use native.Mathlib.Decide.{dec_lt}
+use native.Mathlib.Numerals.{add-one}
+use Rattle.std.specs.List.{list_all, zip}
+use Rattle.std.proofs.lemmas.List.{take_all}
+use Rattle.std.proofs.lemmas.List.Folds.{list_all_more}
+use Rattle.std.proofs.lemmas.Slice.Zip.{length-zip, get_or-zip}
 use mathlib.Core.Path.{◌≡◌, refl, sym, ◌∙◌}
 use mathlib.Core.Logic.{◌↔◌}
-use mathlib.Core.Bool.{true, false}
+use mathlib.Core.Bool.{true, false, and_comm}
 use mathlib.Core.List.{List}
-use lib.ListN.{length, get_or, get_or-eq_default}
+use lib.ListN.{length, take, get_or, get_or-eq_default}
 use lib.Seq.{ext_get_or}
 use lib.Dec.{eqb}
 use borrow.Author.Tests.{eqb-true, eq-eqb, ne_eqb}
-use Rattle.laws.proofs.TestLaws.{clash, not_yes, and_split, and-join, all-each, all_of}
+use Rattle.laws.proofs.TestLaws.{not_yes, and_split, and-join, all-each, all_of}
 use Rattle.laws.specs.Tests.{all}
 use Rattle.padding.specs.Covering.{keeps, keeps_at, covering, Covering}
 
@@ -54,16 +59,28 @@ module _ (first second : List ℕ) where
       go h a p (yes l) = (keeps-iff (get_or first a 0) (get_or second a 0)).0 (all-each (length second) (keeps_at first second) h a l) p
       go h a p (no g) = absurd (omega (arith, get_or-eq_default second 0 {n = a} (omega arith)))
 
-  -- Rows of unequal length never cover, one attribute decides, or every attribute is asked.
+  -- Rows of unequal length never cover.
   pub covering-length : (length first ≡ length second → ⊥) → covering first second ≡ false
   covering-length d = not_yes (covering first second) (λ h. d (covering-iff.0 h).long)
 
-  pub covering-bad : (a : ℕ) → keeps_at first second a ≡ false → covering first second ≡ false
-  covering-bad a e = not_yes (covering first second) (λ h. clash ((keeps-iff (get_or first a 0) (get_or second a 0)).1 ((covering-iff.0 h).values a)) e)
+  -- The test of each pair of codes, as far as the k-th.
+  kept-pairs : length first ≡ length second → (k : ℕ) → k ≤ length second
+      → list_all (λ p. keeps p.0 p.1) (take k (zip first second)) ≡ all k (keeps_at first second)
+  unfolding all
+  kept-pairs e zero h = refl
+  kept-pairs e (suc k) h =
+      let l : k < length second = omega arith in
+      let m : k < length first = omega arith in
+      let b : k < length (zip first second) = rw (length-zip first second) (omega arith) in
+      rw (← add-one k, list_all_more (λ p. keeps p.0 p.1) (zip first second) k (0, 0) b, kept-pairs e k (omega arith), get_or-zip first second k (0, 0) m l)
+      (and_comm (all k (keeps_at first second)) (keeps_at first second k))
 
-  pub covering-good : length first ≡ length second → ((a : ℕ) → a < length second → keeps_at first second a ≡ true) → covering first second ≡ true
+  -- Rows of one length cover where each pair of codes is kept.
+  pub covering-pairs : length first ≡ length second → list_all (λ p. keeps p.0 p.1) (zip first second) ≡ covering first second
   unfolding covering
-  covering-good e h = and-join (eq-eqb (length first) (length second) e) (all_of (length second) (keeps_at first second) h)
+  covering-pairs e =
+      let n : length (zip first second) ≤ length second = rw (length-zip first second) (omega arith) in
+      rw (eq-eqb (length first) (length second) e) (rw (take_all (length second) (zip first second) n) at (kept-pairs e (length second) (omega arith)))
 
 -- ---- an order on rows
 

@@ -1,14 +1,13 @@
--- The padded row of a key: its length, its codes, what is left of it while it is written, and that it is document 000's embedding of the set.
+-- The padded row of a key: its length, its codes, and that it is document 000's embedding of the set.
 -- Assumes nothing.
 use Prim.Native.Nat.{ℕ, ◌+◌, ◌-◌, ◌≤◌, ◌<◌}
 use native.Mathlib.Omega.{arith}
-use native.Mathlib.Numerals.{add-one}
 use mathlib.Core.Path.{◌≡◌, refl, ap, subst, ◌∙◌}
 use mathlib.Core.Logic.{◌↔◌}
 use mathlib.Core.Bool.{true, false}
-use mathlib.Core.List.{List, [], ◌∷◌}
-use lib.ListN.{length, drop, get_or, drop_of_length-le, get_or-append}
-use lib.Seq.{drop-cons, get_or-append-add, get_or-drop}
+use mathlib.Core.List.{List, []}
+use lib.ListN.{length, drop, get_or, get_or-append}
+use lib.Seq.{get_or-append-add, get_or-drop}
 use Rattle.laws.specs.Lists.{put}
 use Rattle.laws.proofs.TestLaws.{not_yes, iff-eq}
 use Rattle.words.specs.Words.{bit_of}
@@ -77,16 +76,6 @@ module _ (cat : Catalogue) (cells : List ℕ) (key : ℕ) where
       let row = padded_row cat cells key in
       let k : length row + (a - length row) ≡ a = rw pad-long (omega arith) in
       (rw k at (get_or-append-add row (drop (length row) o) (a - length row) 0)) ∙ get_or-drop (length row) o (a - length row) 0 ∙ rw k
-
-  -- What is left of it from an attribute on: one code and what is left behind it, and nothing from m on.
-  pub pad-more : (a : ℕ) → a < cat.m
-      → drop a (padded_row cat cells key) ≡ code_below (cells_in cat cells) (set_of cat key) a cat.n ∷ drop (a + 1) (padded_row cat cells key)
-  pad-more a l =
-      let b : a < length (padded_row cat cells key) = rw pad-long l in
-      rw (add-one a, ← pad-at a l) (drop-cons (padded_row cat cells key) a 0 b)
-
-  pub pad-none : (a : ℕ) → cat.m ≤ a → drop a (padded_row cat cells key) ≡ []
-  pad-none a l = drop_of_length-le (padded_row cat cells key) {i = a} (rw pad-long l)
 
   -- The padded row of a consistent set is its embedding.
   pub pad-embedding : Consistent (world_of cat cells) (set_of cat key) → Embedding (cells_in cat cells) (set_of cat key) (padded_row cat cells key)

@@ -1,6 +1,6 @@
 -- Which padded row covers which (request #104, which takes source document 001's rule): the test, and what its yes says; `covering-iff` of
 -- proofs/CoveringLaws ties the two. Rows are lists of codes of any length, and a code of 0 is null. Assumes nothing.
-use Rattle.std.specs.Prelude.{ℕ, ◌<◌, ◌≡◌, Bool, true, false, ◌&&◌, ◌||◌, List, [], ◌∷◌, length, get_or, eqb}
+use Rattle.std.specs.Prelude.{ℕ, ◌<◌, ◌≡◌, Bool, false, ◌&&◌, ◌||◌, List, [], ◌∷◌, length, get_or, eqb}
 use Rattle.laws.specs.Tests.{all}
 
 -- Of two codes: the second is null, or the first is the same.

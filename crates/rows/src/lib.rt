@@ -7,20 +7,21 @@ ghost use Rattle.words.specs.Words.{bit_of};
 ghost use Rattle.keys.specs.Keys.{most_tables};
 ghost use Rattle.keys.specs.TwoWords.{number_of};
 ghost use Rattle.tables.specs.Sizes.{most_cells};
-ghost use Rattle.tables.specs.Catalogues.{code_at};
+ghost use Rattle.tables.specs.Catalogues.{scheme_of, code_at, code_of};
 ghost use Rattle.tables.specs.Checks.{Lawful};
-ghost use Rattle.rows.specs.Named.{named, rows_there};
+ghost use Rattle.rows.specs.Named.{There, named, rows_there};
 
 use keys::Key;
-use tables::Catalogue;
+use tables::{Catalogue, Tables};
 
-// The code of attribute a in the row of this scheme whose cells begin at `start`.
-// Whatever reads a row's cell reads it by this.
-pub fn code_at(cells: &[u64], scheme: u64, start: usize, a: usize) -> u64
-    requires { (start + ones scheme ≤ length cells.now) × (a < 64) × (bit_of scheme a ≡ true) }
-    ensures { result ≡ code_at cells.now scheme start a }
+// The code of attribute a in row r of table t.
+// Cells lie by rising attribute, so it stands as far into the row as the scheme has attributes below a.
+pub fn code_of(tables: &Tables<'_>, t: usize, r: usize, a: usize) -> u64
+    requires row { There tables.now.catalogue t r }
+    requires attribute { (a < 64) × (bit_of (scheme_of tables.now.catalogue t) a ≡ true) }
+    ensures { result ≡ code_of tables.now.catalogue tables.now.cells.now t r a }
 {
-    cells[start + tables::rank(scheme, a)]
+    tables.cells[tables.row_start(t, r) + tables::rank(tables.catalogue.schemes[t], a)]
 }
 
 // How many tables a key has room for.
@@ -28,35 +29,29 @@ const MOST_TABLES: usize = 8;
 
 // How many rows a key may name in table t: none where there is no such table.
 // Entries from n on are ignored, so they are not looked at.
-pub fn rows_there(cat: Catalogue, t: usize) -> u64
+pub fn table_rows(tables: &Tables<'_>, t: usize) -> u64
     requires { t < most_tables }
-    ensures { result ≡ rows_there cat t }
+    ensures { result ≡ rows_there tables.now.catalogue t }
 {
-    if t < cat.n {
-        return cat.rows[t] as u64;
+    if t < tables.catalogue.n {
+        u64::from(tables.catalogue.rows[t])
+    } else {
+        0
     }
-    0
 }
 
 // Whether a key names rows, and only rows that are there.
 // A used record is asked this before anything is read by its key.
-pub fn key_named(cat: Catalogue, key: Key) -> bool
-    requires { Lawful cat most_cells }
-    ensures { result ≡ named cat (number_of key) }
+pub fn named(tables: &Tables<'_>, key: Key) -> bool
+    ensures { result ≡ named tables.now.catalogue (number_of key) }
 {
-    let none = keys::none();
-    if keys::same(key, none) {
+    if key == Key::none() || key.has_spare() {
         return false;
     }
-    if keys::spare(key) {
-        return false;
-    }
-    let mut t: usize = 0;
-    while t < MOST_TABLES {
-        if rows_there(cat, t) < keys::row_of(key, t) {
+    for t in 0..MOST_TABLES {
+        if table_rows(tables, t) < key.row(t) {
             return false;
         }
-        t += 1;
     }
     true
 }

@@ -21,8 +21,7 @@ use Rattle.keys.specs.declared.Key.{Key}
 use Rattle.keys.proofs.KeyLaws.{with-lt}
 use Rattle.keys.proofs.SetLaws.{in-length, in-with}
 use Rattle.tables.specs.declared.Catalogue.{Catalogue}
-use Rattle.tables.specs.Sizes.{most_tables}
-use Rattle.tables.specs.Catalogues.{scheme_of, row_start, place_in, mask_in}
+use Rattle.tables.specs.Catalogues.{scheme_of, row_start, mask_in}
 use Rattle.tables.specs.Checks.{Lawful}
 use Rattle.disjunction.specs.Sets.{Tables, at, Member}
 use Rattle.disjunction.specs.Rule.{Place, add_row, member, dropped}
@@ -33,12 +32,11 @@ use Rattle.rows.specs.Named.{Named, There}
 use Rattle.rows.proofs.WorldLaws.{touch-iff, fit-iff, world-symmetric}
 use Rattle.rows.proofs.TouchLaws.{mask-self, mask-touches}
 use Rattle.rows.proofs.NamedLaws.{row_small}
-use Rattle.walks.specs.Merged.{merged_length, Under, Merged, matches, Added, row_in, only}
+use Rattle.walks.specs.Merged.{merged_length, Under, Merged, matches, Added, only}
 use Rattle.sets.specs.Promises.{TablesOf, SetFor, lacking, parts}
 use Rattle.sets.proofs.MaskLaws.{bit-with, or_no, without-lacks, without-under}
 use Rattle.sets.proofs.MergedLaws.{matches-fits, merged-none, merged-add, only_here, only-other, only-more}
 use Rattle.sets.proofs.LackingLaws.{tables-has, tables-none, tables-lt, tables-add, lacking-by}
-use Rattle.sets.proofs.RowTestLaws.{start_of}
 
 -- ---- what has to go
 
@@ -82,12 +80,12 @@ module _ (W : Tables) (T : List ℕ) (s : Place) where
 
 -- The merged row of one row, as the code makes it.
 pub merged-one : (cat : Catalogue) (cells : List ℕ) (lent : ℕ) → Lawful cat lent → (t r mask : ℕ) (codes codes' : List ℕ) → There cat t r
-    → length codes ≡ merged_length → Added cells (scheme_of cat t) (row_in (place_in cat t) (scheme_of cat t) (r - 1)) 0 codes codes' mask
+    → length codes ≡ merged_length → Added cells (scheme_of cat t) (row_start cat t r) 0 codes codes' mask
     → Merged cat cells (only t r) codes' mask
 merged-one cat cells lent L t r mask codes codes' h l A =
     merged-add cat cells lent L (λ u. 0) (only t r) t r h.table (only-more t r h.low) codes codes' 0 mask
     (merged-none cat cells (λ u. 0) codes l (λ u. refl))
-    (rw (← start_of cat t r (place_in cat t) (L.places t h.table)) A)
+    A
 
 -- A row is consistent with row r of table t where it has the codes of its merged row.
 pub fits_one : (cat : Catalogue) (cells : List ℕ) (lent : ℕ) → Lawful cat lent → (t r u q : ℕ) (codes : List ℕ) (mask : ℕ) → 0 < r
@@ -201,9 +199,6 @@ module _ (cat : Catalogue) (cells : List ℕ) (lent : ℕ) (L : Lawful cat lent)
     gone-tables : (u : ℕ) → bit_of gone u ≡ true → bit_of tables u ≡ true
     gone-tables u b = ⊎_elim (λ y. y) (λ n. absurd (clash b (G u ∙ parts_none (world_of cat cells) T s u (tables-none T tables M u n)))) (which (bit_of tables u))
 
-    pub gone-few : (u : ℕ) → bit_of gone u ≡ true → u < most_tables
-    gone-few u b = omega (arith, tables-lt T tables M u (gone-tables u b), long, L.tables)
-
     pub gone-under : (x : ℕ) → Under gone (bit_or tables x)
     gone-under x u b = bit-or tables x u ∙ or_left (bit_of x u) (gone-tables u b)
 
@@ -219,7 +214,7 @@ module _ (cat : Catalogue) (cells : List ℕ) (lent : ℕ) (L : Lawful cat lent)
 pub added-set : (cat : Catalogue) (lent : ℕ) → Lawful cat lent → (key tables : ℕ) → Named cat key → TablesOf (set_of cat key) tables → (s : Place)
     → There cat s.table s.row
     → (key' : Key) (x : ℕ) → number_of key' ≡ with_row bits_per_row key s.table s.row → x ≡ 2 ^ s.table
-    → SetFor cat (add_row (set_of cat key) s) (record { key = key'; tables = bit_or tables x })
+    → SetFor cat (add_row (set_of cat key) s) (number_of key') (bit_or tables x)
 added-set cat lent L key tables N M s h key' x e f =
     let small = row_small cat lent L s.table s.row h in
     record {

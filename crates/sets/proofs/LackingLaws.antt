@@ -128,6 +128,9 @@ module _ (T : List ℕ) (mask : ℕ) where
   pub lacking-in : (u : ℕ) → bit_of mask u ≡ false → at (lacking T mask) u ≡ at T u
   lacking-in u b = lacking-at u ∙ rw b
 
+  pub lacking-le : (u : ℕ) → at (lacking T mask) u ≤ at T u
+  lacking-le u = ⊎_elim (λ b. omega (arith, lacking-out u b)) (λ b. omega (arith, lacking-in u b)) (which (bit_of mask u))
+
   -- A set that has of each table what is asked for.
   pub lacking-by : (U : List ℕ) → length U ≡ length T → ((u : ℕ) → u < length T → at U u ≡ cond (bit_of mask u) 0 (at T u)) → U ≡ lacking T mask
   lacking-by U e h =

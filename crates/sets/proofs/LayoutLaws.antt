@@ -1,12 +1,12 @@
--- A layout: what it and the catalogue have of a table is small, and which tables its mask has.
+-- A layout: its numbers are small, and which tables its mask has.
 -- Assumes nothing.
-use Prim.Native.Nat.{ℕ, ◌*◌, ◌^◌, ◌≤◌, ◌<◌}
+use Prim.Native.Nat.{ℕ, ◌^◌, ◌≤◌, ◌<◌}
 use mathlib.Core.Path.{◌≡◌}
 use mathlib.Core.Logic.{⊎_elim}
 use mathlib.Core.List.{List}
 use native.Mathlib.Omega.{arith}
 use lib.ListN.{get_or}
-use lib.Count.{ones, ones-le}
+use lib.Count.{ones}
 use lib.Bits.{bit_or}
 use lib.Pow.{pow_mono}
 use borrow.Author.Tests.{eqb-true}
@@ -14,12 +14,12 @@ use Rattle.laws.proofs.TestLaws.{clash, or_case}
 use Rattle.words.specs.Words.{bit_of}
 use Rattle.words.proofs.WordLaws.{zero_bit, bit-or}
 use Rattle.tables.specs.declared.Catalogue.{Catalogue}
-use Rattle.tables.specs.Catalogues.{scheme_of, count_of, first_cell, place_in}
+use Rattle.tables.specs.Catalogues.{scheme_of, count_of, first_cell}
 use Rattle.tables.specs.Checks.{Lawful}
-use Rattle.tables.specs.Sizes.{most_cells, most_total}
-use Rattle.tables.proofs.CatalogueLaws.{cells-mono, rows_few}
-use Rattle.sets.specs.declared.Layout.{Layout}
-use Rattle.walks.specs.Merged.{merged_length, Rising}
+use Rattle.tables.specs.Sizes.{most_total}
+use Rattle.tables.proofs.CatalogueLaws.{rows_few}
+use Rattle.sets.specs.declared.Measures.{Measures}
+use Rattle.walks.specs.Merged.{Rising}
 use Rattle.sets.specs.Promises.{RisingIn, LaidOut}
 use Rattle.sets.proofs.MaskLaws.{one-is}
 
@@ -27,19 +27,10 @@ use Rattle.sets.proofs.MaskLaws.{one-is}
 pub scheme-narrow : (cat : Catalogue) (lent : ℕ) → Lawful cat lent → (t : ℕ) → t < cat.n → scheme_of cat t < 2 ^ 64
 scheme-narrow cat lent L t l = omega (arith, L.scheme t l, pow_mono L.attributes)
 
--- What is read of a table is small.
-pub record Small (cat : Catalogue) (l : Layout) (t : ℕ) : Type 0 where
-  pub width : get_or l.widths t 0 ≤ merged_length
-  pub place : place_in cat t ≤ most_cells
-  pub before : get_or l.before t 0 ≤ most_total
-
-pub laid-small : (cat : Catalogue) (lent : ℕ) → Lawful cat lent → (cells : List ℕ) (l : Layout) → LaidOut cat cells l → (t : ℕ) → t < cat.n → Small cat l t
-laid-small cat lent L cells l o t b =
-    record {
-      width = omega (arith, o.wide t b, ones-le merged_length _ (scheme-narrow cat lent L t b));
-      place = omega (arith, L.places t b, cells-mono cat t cat.n (omega (arith, b)), L.cells);
-      before = omega (arith, o.before t b, rows_few cat lent L t (omega (arith, b)));
-    }
+-- Few rows lie before a table.
+pub laid-small : (cat : Catalogue) (lent : ℕ) → Lawful cat lent → (cells : List ℕ) (l : Measures) → LaidOut cat cells l → (t : ℕ) → t < cat.n
+    → get_or l.before t 0 ≤ most_total
+laid-small cat lent L cells l o t b = omega (arith, o.before t b, rows_few cat lent L t (omega (arith, b)))
 
 -- ---- the mask
 

@@ -20,16 +20,13 @@ use Rattle.tables.specs.Catalogues.{scheme_of, code_of, row_start}
 use Rattle.tables.specs.Checks.{Lawful}
 use Rattle.rows.specs.World.{fits_in}
 use Rattle.rows.proofs.WorldLaws.{fit-iff}
-use Rattle.walks.specs.Merged.{merged_length, Same, Under, Attributes, Merged, matches, joint, Added, only}
+use Rattle.walks.specs.Merged.{merged_length, Same, Attributes, Merged, matches, joint, Added, only}
 use Rattle.walks.proofs.MatchLaws.{matches-iff}
 use Rattle.sets.specs.Promises.{Gathered}
 
 -- The attributes that a row shares with a set are its own.
 pub shared-split : (scheme mask a : ℕ) → bit_of (bit_and scheme mask) a ≡ true → (bit_of scheme a ≡ true) × (bit_of mask a ≡ true)
 shared-split scheme mask a b = and_split (bit_of scheme a) (bit_of mask a) (sym (bit-and scheme mask a) ∙ b)
-
-pub shared-under : (scheme mask : ℕ) → Under (bit_and scheme mask) scheme
-shared-under scheme mask a b = (shared-split scheme mask a b).0
 
 -- g is f with row r of table t, of which f has none.
 pub record OneMore (f g : ℕ → ℕ) (t r : ℕ) : Type 0 where

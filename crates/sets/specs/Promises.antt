@@ -5,15 +5,13 @@ use Rattle.std.specs.Int.Count.{ones}
 use Rattle.laws.specs.Lists.{tab}
 use Rattle.words.specs.Words.{bit_of}
 use Rattle.keys.specs.Keys.{bits_per_row, key_of}
-use Rattle.keys.specs.TwoWords.{number_of}
 use Rattle.tables.specs.declared.Catalogue.{Catalogue}
 use Rattle.tables.specs.Catalogues.{scheme_of, count_of, first_cell, mask_in, rows_before, total}
 use Rattle.disjunction.specs.Sets.{Tables, at}
 use Rattle.disjunction.specs.Rule.{Place, Grown, member, row_test}
 use Rattle.rows.specs.World.{world_of, set_of}
 use Rattle.rows.specs.Named.{Named}
-use Rattle.sets.specs.declared.Layout.{Layout}
-use Rattle.sets.specs.declared.RowSet.{RowSet}
+use Rattle.sets.specs.declared.Measures.{Measures}
 use Rattle.walks.specs.Merged.{Rising}
 
 -- Every table of the mask has a first column that does not fall. Of the others nothing is said.
@@ -22,7 +20,7 @@ RisingIn cat cells mask = (t : ℕ) → t < cat.n → bit_of mask t ≡ true →
 
 -- What a trial goes by: of each table how many rows lie before it and how wide its rows are; how many rows there are; and tables whose first column does
 -- not fall.
-pub record LaidOut (cat : Catalogue) (cells : List ℕ) (l : Layout) : Type 0 where
+pub record LaidOut (cat : Catalogue) (cells : List ℕ) (l : Measures) : Type 0 where
   pub before : (t : ℕ) → t < cat.n → get_or l.before t 0 ≡ rows_before cat t
   pub wide : (t : ℕ) → t < cat.n → get_or l.widths t 0 ≡ ones (scheme_of cat t)
   pub all : l.total ≡ total cat
@@ -39,10 +37,10 @@ abbrev pub TablesOf : List ℕ → ℕ → Type 0
 TablesOf T mask = (u : ℕ) → bit_of mask u ≡ member T u
 
 -- The set as its key, which has no row from n on, and its tables.
-pub record SetFor (cat : Catalogue) (T : List ℕ) (s : RowSet) : Type 0 where
-  pub low : number_of s.key < 2 ^ (bits_per_row * cat.n)
-  pub rows : set_of cat (number_of s.key) ≡ T
-  pub tables : TablesOf T s.tables
+pub record SetFor (cat : Catalogue) (T : List ℕ) (key mask : ℕ) : Type 0 where
+  pub low : key < 2 ^ (bits_per_row * cat.n)
+  pub rows : set_of cat key ≡ T
+  pub tables : TablesOf T mask
 
 -- T without its rows of the mask's tables.
 unfoldable pub lacking : List ℕ → ℕ → List ℕ

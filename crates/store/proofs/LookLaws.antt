@@ -8,8 +8,7 @@ use lib.Dec.{eqb, ltb}
 use borrow.Author.Tests.{eqb-true, eqb-false, ltb-true, ltb-false, eq-eqb, ne_eqb, le-ltb, lt-ltb}
 use Rattle.laws.proofs.TestLaws.{which}
 use Rattle.store.specs.Store.{walk}
-use Rattle.store.specs.declared.Looked.{Looked}
-use Rattle.store.specs.declared.Looked.TheVariants.{Found, Absent, Damaged}
+use Rattle.store.specs.Looks.{Looked, Found, Absent, Damaged}
 
 module _ (hit bit : ℕ → Bool) (link : Bool → ℕ → ℕ) (found : ℕ) where
   -- ---- one look, with f bits left

@@ -7,8 +7,7 @@ use mathlib.Core.Path.{◌≡◌, refl}
 use Rattle.words.specs.Words.{bit_of}
 use Rattle.keys.specs.TwoWords.{joined, first_word, second_word}
 use Rattle.store.specs.Store.{Store, store_in, link_of, walk, search_of, filed, named, added, answer_of, store_after}
-use Rattle.store.specs.declared.Looked.TheVariants.{Found, Absent, Damaged}
-use Rattle.store.specs.declared.Placed.TheVariants.{Known, Added, Full}
+use Rattle.store.specs.Looks.{Found, Absent, Damaged, Known, Added, Full}
 
 -- Three tables at twelve bits for a row.
 abbrev deepest : ℕ

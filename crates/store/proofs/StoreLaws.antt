@@ -17,9 +17,7 @@ use Rattle.words.proofs.WordLaws.{bits-eq}
 use Rattle.keys.specs.TwoWords.{number_in, low_of, high_of}
 use Rattle.keys.proofs.TwoWordLaws.{number-words}
 use Rattle.store.specs.Store.{Store, room_in, link_of, search_of, filed, named, added, answer_of, store_after, Copy}
-use Rattle.store.specs.declared.Looked.{Looked}
-use Rattle.store.specs.declared.Looked.TheVariants.{Found, Absent, Damaged}
-use Rattle.store.specs.declared.Placed.TheVariants.{Added, Full, Broken}
+use Rattle.store.specs.Looks.{Looked, Found, Absent, Damaged, Added, Full, Broken}
 pub use Rattle.store.specs.Store.{key_at}
 pub use Rattle.store.specs.Good.{link_at, Key, StoreTree, GoodStore, Stored}
 use Rattle.store.specs.Good.{Tree}

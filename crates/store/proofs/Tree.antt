@@ -12,8 +12,7 @@ use borrow.Author.Count.{below_more}
 use borrow.Author.Tests.{eq-eqb, ne_eqb}
 use Rattle.store.specs.Store.{walk}
 use Rattle.store.specs.Good.{Agree, Child, Tree}
-use Rattle.store.specs.declared.Looked.{Looked}
-use Rattle.store.specs.declared.Looked.TheVariants.{Found, Absent, Damaged}
+use Rattle.store.specs.Looks.{Looked, Found, Absent, Damaged}
 use Rattle.store.proofs.LookLaws.{by-looks}
 
 -- The depths after a record was added below p.

@@ -1,2 +1,4 @@
+pub mod Looks
 pub mod Store
 pub mod Good
+pub mod Lent

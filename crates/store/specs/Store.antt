@@ -3,10 +3,7 @@
 use Rattle.std.specs.Prelude.{ℕ, zero, suc, ◌+◌, ◌-◌, ◌<◌, min, ◌≡◌, Bool, true, false, not, cond, List, eqb, ltb, length, get_or, set}
 use Rattle.words.specs.Words.{bit_of}
 use Rattle.keys.specs.TwoWords.{number_in, low_of, high_of}
-use Rattle.store.specs.declared.Looked.{Looked}
-use Rattle.store.specs.declared.Looked.TheVariants.{Found, Absent, Damaged}
-use Rattle.store.specs.declared.Placed.{Placed}
-use Rattle.store.specs.declared.Placed.TheVariants.{Known, Added, Full, Broken}
+use Rattle.store.specs.Looks.{Looked, Found, Absent, Damaged, Placed, Known, Added, Full, Broken}
 
 -- What lies in the four lent slices, and how many records are used. "Words lie in two slices": the first words of the keys, and the second ones.
 pub record Store : Type 0 where

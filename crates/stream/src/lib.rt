@@ -2,23 +2,24 @@
 
 // The stream of row sets: open, and the by-value call with a budget of trials.
 // The store lies in four slices that the caller lends; the record goes in by value and comes back moved on.
-ghost use Rattle.std.specs.Prelude.{◌≡◌, ◌≤◌, ◌<◌, length};
-ghost use Rattle.tables.specs.Sizes.{most_cells};
+ghost use Rattle.std.specs.Prelude.{◌≡◌, ◌≤◌, ◌<◌, cond, length, IfOk, IfErr, OnErr};
+ghost use Rattle.refusals.specs.Refusals.{number, fault_in};
 ghost use Rattle.tables.specs.Catalogues.{total};
-ghost use Rattle.tables.specs.Checks.{Lawful};
-ghost use Rattle.keys.specs.Keys.{most_tables};
 ghost use Rattle.keys.specs.TwoWords.{number_of};
-ghost use Rattle.sets.specs.Promises.{LaidOut};
-ghost use Rattle.machine.specs.Machine.{Fit, stray, unfit, call_fault, work, call};
-ghost use Rattle.stream.specs.Promises.{asked_of, Reached, key_wanted, state_with, state_of, called_with, Opens, Steps, OpensHolding, StepsHolding, Begins, Tries, Ends};
-ghost use Rattle.store.specs.Store.{room_of};
-ghost use Rattle.rows.specs.World.{place_of};
+ghost use Rattle.disjunction.specs.Asked.{first_for};
+ghost use Rattle.rows.specs.World.{world_of, place_of};
 ghost use Rattle.rows.specs.Named.{There};
+ghost use Rattle.store.specs.Lent.{room_for, SameSlices};
+ghost use Rattle.machine.specs.Machine.{Askable, Fit, stray, unfit, call_fault, work, call, opening_for, trial_on};
+ghost use Rattle.stream.specs.Answers.{open_answer_of, holding_open_answer_of, step_answer_of, holding_step_answer_of};
+ghost use Rattle.stream.specs.Promises.{asked_of, state_with, called_with, Opens, Steps, OpensHolding, StepsHolding};
+ghost use Rattle.stream.specs.Parts.{Reached, key_wanted, stream_in, called_in, opened_for, refused_by, Did, NoMark, Ends};
 
 use keys::Key;
+use refusals::Refusal;
 use sets::Layout;
-use store::Placed;
-use tables::{Catalogue, Row};
+use store::{Offered, Store};
+use tables::{Catalogue, Row, Tables};
 
 // "One stream record per open stream": records found, records handed out, and the next row to try.
 #[derive(Clone, Copy)]
@@ -26,13 +27,6 @@ pub struct StreamRecord {
     pub found: usize,
     pub taken: usize,
     pub next_row: usize,
-}
-
-// What a stream is asked for: every set, or those with row r of table t.
-#[derive(Clone, Copy)]
-pub enum Scope {
-    Every,
-    With(usize, usize),
 }
 
 // The record of a stream of the sets that hold one row: it names the row beside found, taken and next row.
@@ -43,108 +37,150 @@ pub struct HoldingRecord {
     pub row: usize,
 }
 
-// What a call answers: a set, the end, or that its budget is spent; or the number of a refusal.
+// What a stream is asked for: every set, or those that hold a row.
+#[derive(Clone, Copy)]
+pub enum Scope {
+    Every,
+    With(Row),
+}
+
+// What a call answers: a set, by its key; the end; that its budget is spent; or a refusal.
 #[derive(Clone, Copy)]
 pub enum Answer {
-    Set,
+    Set(Key),
     Finished,
     Working,
-    Refused(usize),
+    Refused(Refusal),
 }
 
-// All that a call gives: the answer, the key of a set (else that of no row), its trials, row tests and looks, and the record moved on.
+// How many trials a call made, and how many row tests and looks these made.
 #[derive(Clone, Copy)]
-pub struct StepAnswer {
-    pub answer: Answer,
-    pub key: Key,
+pub struct Counts {
     pub trials: usize,
     pub tests: usize,
     pub looks: usize,
-    pub stream: StreamRecord,
 }
 
-// The same of a stream of the sets that hold one row, which stays the one that its record names.
+// All that a call gives: the answer, the counts, and the record moved on.
 #[derive(Clone, Copy)]
-pub struct HoldingStepAnswer {
+pub struct Stepped<R> {
     pub answer: Answer,
-    pub key: Key,
-    pub trials: usize,
-    pub tests: usize,
-    pub looks: usize,
-    pub stream: HoldingRecord,
+    pub counts: Counts,
+    pub stream: R,
 }
 
-// All that open gives: the refusal (0 for none), the record, and its row tests.
+// All that open gives: the record, and its row tests.
 #[derive(Clone, Copy)]
-pub struct OpenAnswer {
-    pub refusal: usize,
-    pub stream: StreamRecord,
+pub struct Opened<R> {
+    pub stream: R,
     pub tests: usize,
 }
 
-// The same of a stream of the sets that hold one row, with the row that its record then names.
+// What a trial that is done comes to: the records found after it, its row tests and its looks.
 #[derive(Clone, Copy)]
-pub struct HoldingOpenAnswer {
-    pub refusal: usize,
-    pub stream: HoldingRecord,
-    pub tests: usize,
+struct Done {
+    found: usize,
+    tests: usize,
+    looks: usize,
 }
 
-// What a trial comes to: the records found after it, its row tests and its looks; or refusal 12, or 14.
-#[derive(Clone, Copy)]
-pub enum Tried {
-    Done(usize, usize, usize),
-    Full,
-    Damaged,
-}
-
-// What open gives where there is no row, or where it is refused: a record of zeros.
-fn unopened(refusal: usize) -> OpenAnswer
-    ensures { result ≡ record { refusal = refusal; stream = record { found = 0; taken = 0; next_row = 0 }; tests = 0 } }
-{
-    OpenAnswer {
-        refusal,
-        stream: StreamRecord {
-            found: 0,
-            taken: 0,
-            next_row: 0,
-        },
-        tests: 0,
+impl Counts {
+    // Those of a call that made no trial.
+    pub fn none() -> Counts
+        ensures { result ≡ record { trials = 0; tests = 0; looks = 0 } }
+    {
+        Counts {
+            trials: 0,
+            tests: 0,
+            looks: 0,
+        }
     }
 }
 
-// A row alone, extended, becomes record 0 of the store.
-fn file_first(
+impl Scope {
+    // Whether it asks for a row that is not there (19 at open, 13 in a record).
+    fn is_stray(self, tables: &Tables<'_>) -> bool
+        ensures { result ≡ stray tables.now.catalogue (asked_of self) }
+    {
+        match self {
+            Scope::Every => false,
+            Scope::With(x) => {
+                let cat = tables.catalogue;
+                x.row == 0 || cat.n <= x.table || (cat.rows[x.table] as usize) < x.row
+            }
+        }
+    }
+
+    // The row that its stream begins with: the first of all, or the one that is asked for.
+    fn first(self, tables: &Tables<'_>) -> Row
+        requires { Askable tables.now.catalogue (asked_of self) × (0 < total tables.now.catalogue) }
+        ensures first { place_of result ≡ first_for (world_of tables.now.catalogue tables.now.cells.now) (asked_of self) }
+        ensures there { There tables.now.catalogue result.table result.row }
+    {
+        match self {
+            Scope::Every => tables.row_at(0),
+            Scope::With(x) => x,
+        }
+    }
+
+    // Whether a set, by its key, is asked for.
+    fn wants(self, key: Key) -> bool
+        requires { Reached (asked_of self) }
+        ensures { result ≡ key_wanted (asked_of self) (number_of key) }
+    {
+        match self {
+            Scope::Every => true,
+            Scope::With(x) => key.row(x.table) == x.row as u64,
+        }
+    }
+}
+
+// Opens a stream of what is asked for: the first row, or the row asked for, alone and extended, becomes record 0 of the store.
+// Everything is checked before that record is written.
+pub fn open_for(
     cat: Catalogue,
     cells: &[u64],
     low: &mut [u64],
     high: &mut [u64],
     left: &mut [u16],
     right: &mut [u16],
-    first: Row,
-) -> OpenAnswer
-    requires { Lawful cat (length cells.now) × There cat first.table first.row × (0 < room_of (length low.old) (length high.old) (length left.old) (length right.old)) }
-    ensures { Begins cat cells.now (place_of first) low.old high.old left.old right.old result low.new high.new left.new right.new }
+    scope: Scope,
+) -> Result<Opened<StreamRecord>, Refusal>
+    ensures { opened_for (asked_of scope) result low.new high.new left.new right.new ≡ opening_for cat cells.now (asked_of scope) low.old high.old left.old right.old }
 {
-    let total = tables::total_rows(cat);
-    let none = keys::none();
-    let alone = keys::with_row(none, first.table, first.row as u64);
-    let layout = sets::laid_out(cat, cells, 1);
-    let g = sets::extend(cat, cells, layout, alone, 0);
-    store::file_record(low, high, left, right, 0, g.key);
-    OpenAnswer {
-        refusal: 0,
-        stream: StreamRecord {
-            found: 1,
-            taken: 0,
-            next_row: total,
-        },
-        tests: g.tests,
+    let tables = Tables::new(cat, cells)?;
+    if scope.is_stray(&tables) {
+        return Err(Refusal::NoSuchRow);
     }
+    let mut stream = StreamRecord {
+        found: 0,
+        taken: 0,
+        next_row: tables.total_rows(),
+    };
+    if stream.next_row == 0 {
+        return Ok(Opened { stream, tests: 0 });
+    }
+    let mut store = Store {
+        low,
+        high,
+        left,
+        right,
+    };
+    if store.room() == 0 {
+        return Err(Refusal::FullStore);
+    }
+    let first = scope.first(&tables);
+    let alone = Key::none().with_row(first.table, first.row as u64);
+    let grown = Layout::new(tables, 1).extend(alone, 0);
+    store.file_record(0, grown.key);
+    stream.found = 1;
+    Ok(Opened {
+        stream,
+        tests: grown.tests,
+    })
 }
 
-// Opens a stream on the tables: the first row alone, extended, becomes record 0 of the store.
-// Everything is checked before the first record is written.
+// Opens a stream of every set.
 pub fn open(
     cat: Catalogue,
     cells: &[u64],
@@ -152,69 +188,13 @@ pub fn open(
     high: &mut [u64],
     left: &mut [u16],
     right: &mut [u16],
-) -> OpenAnswer
-    ensures { Opens cat cells.now low.old high.old left.old right.old result low.new high.new left.new right.new }
+) -> Result<Opened<StreamRecord>, Refusal>
+    ensures { Opens cat cells.now low.old high.old left.old right.old (open_answer_of result) low.new high.new left.new right.new }
 {
-    let f = tables::fault(cat, cells.len());
-    if f != 0 {
-        return unopened(f);
-    }
-    let total = tables::total_rows(cat);
-    if total == 0 {
-        return unopened(0);
-    }
-    let room = store::room(low, high, left, right);
-    if room == 0 {
-        return unopened(12);
-    }
-    let first = tables::row_at(cat, 0);
-    file_first(cat, cells, low, high, left, right, first)
+    open_for(cat, cells, low, high, left, right, Scope::Every)
 }
 
-// Whether there is no such table or row (19 at open, 13 in a record).
-fn missing(cat: Catalogue, scope: Scope) -> bool
-    requires { Lawful cat most_cells }
-    ensures { result ≡ stray cat (asked_of scope) }
-{
-    match scope {
-        Scope::Every => false,
-        Scope::With(t, r) => {
-            if r == 0 {
-                return true;
-            }
-            if t < cat.n {
-                if rows::rows_there(cat, t) < r as u64 {
-                    return true;
-                }
-                return false;
-            }
-            true
-        }
-    }
-}
-
-// What open gave of the sets that hold one row, with the row that its record names.
-fn held(opened: OpenAnswer, table: usize, row: usize) -> HoldingOpenAnswer
-    ensures { result ≡ record { refusal = opened.refusal; stream = record { stream = opened.stream; table = table; row = row }; tests = opened.tests } }
-{
-    let stream = opened.stream;
-    HoldingOpenAnswer {
-        refusal: opened.refusal,
-        stream: HoldingRecord { stream, table, row },
-        tests: opened.tests,
-    }
-}
-
-// What that open gives where it is refused: a record of zeros.
-fn unopened_holding(refusal: usize) -> HoldingOpenAnswer
-    ensures { result ≡ record { refusal = refusal; stream = record { stream = record { found = 0; taken = 0; next_row = 0 }; table = 0; row = 0 }; tests = 0 } }
-{
-    let opened = unopened(refusal);
-    held(opened, 0, 0)
-}
-
-// Opens a stream of the sets that hold one row: that row alone, extended, becomes record 0 of the store.
-// Everything is checked before the first record is written.
+// Opens a stream of the sets that hold one row, which its record names.
 pub fn open_holding(
     cat: Catalogue,
     cells: &[u64],
@@ -224,202 +204,130 @@ pub fn open_holding(
     right: &mut [u16],
     table: usize,
     row: usize,
-) -> HoldingOpenAnswer
-    ensures { OpensHolding cat cells.now low.old high.old left.old right.old table row result low.new high.new left.new right.new }
+) -> Result<Opened<HoldingRecord>, Refusal>
+    ensures { OpensHolding cat cells.now low.old high.old left.old right.old table row (holding_open_answer_of result) low.new high.new left.new right.new }
 {
-    let f = tables::fault(cat, cells.len());
-    if f != 0 {
-        return unopened_holding(f);
-    }
-    if missing(cat, Scope::With(table, row)) {
-        return unopened_holding(19);
-    }
-    let room = store::room(low, high, left, right);
-    if room == 0 {
-        return unopened_holding(12);
-    }
-    let opened = file_first(cat, cells, low, high, left, right, Row { table, row });
-    held(opened, table, row)
+    let scope = Scope::With(Row { table, row });
+    let Opened { stream, tests } = open_for(cat, cells, low, high, left, right, scope)?;
+    Ok(Opened {
+        stream: HoldingRecord { stream, table, row },
+        tests,
+    })
 }
 
-// Whether a set, by its key, is asked for.
-fn wants(scope: Scope, key: Key) -> bool
-    requires { Reached (asked_of scope) }
-    ensures { result ≡ key_wanted (asked_of scope) (number_of key) }
-{
-    match scope {
-        Scope::Every => true,
-        Scope::With(t, r) => {
-            if keys::row_of(key, t) == r as u64 {
-                return true;
-            }
-            false
-        }
-    }
-}
-
-// Whether the record does not fit the tables and the store (13).
+// 13 where the record does not fit the tables and the store, or asks for a row that is not there.
 // Behind this test every place that the record names is there.
-fn record_unfit(
-    cat: Catalogue,
-    low: &[u64],
-    high: &[u64],
-    left: &[u16],
-    right: &[u16],
+fn check_record(
+    tables: &Tables<'_>,
+    store: &Store<'_>,
     s: StreamRecord,
-) -> bool
-    requires { Lawful cat most_cells }
-    ensures { result ≡ unfit cat (state_of s low.now high.now left.now right.now) }
+    scope: Scope,
+) -> Result<(), Refusal>
+    ensures { fault_in result ≡ cond (unfit tables.now.catalogue (stream_in (asked_of scope) s store.now)) 13 0 }
 {
-    let total = tables::total_rows(cat);
-    let room = store::room(low, high, left, right);
-    if room < s.found {
-        return true;
+    let total = tables.total_rows();
+    if scope.is_stray(tables)
+        || store.room() < s.found
+        || s.found < s.taken
+        || total < s.next_row
+        || (s.taken == 0 && s.next_row != total)
+        || (s.found == 0 && total != 0)
+        || (s.found != 0 && total == 0)
+    {
+        return Err(Refusal::UnfitRecord);
     }
-    if s.found < s.taken {
-        return true;
-    }
-    if total < s.next_row {
-        return true;
-    }
-    if total == 0 {
-        if s.found == 0 {
-            return false;
-        }
-        return true;
-    }
-    if s.found == 0 {
-        return true;
-    }
-    if s.taken == 0 {
-        if s.next_row == total {
-            return false;
-        }
-        return true;
-    }
-    false
+    Ok(())
 }
 
-// The refusal that a call meets before work (4, 5, 6, 8; 13; 11), or 0.
-fn fault(
+// The tables of a call, or the refusal that it meets before work: 4, 5, 6, 8; 13; 11.
+fn check_call<'a>(
     cat: Catalogue,
-    cells: &[u64],
-    low: &[u64],
-    high: &[u64],
-    left: &[u16],
-    right: &[u16],
+    cells: &'a [u64],
+    store: &Store<'_>,
     s: StreamRecord,
     scope: Scope,
     padded: &[u64],
-) -> usize
-    ensures { result ≡ call_fault cat (length cells.now) (state_with (asked_of scope) s low.now high.now left.now right.now) padded.now }
+) -> Result<Tables<'a>, Refusal>
+    ensures refusal { fault_in result ≡ call_fault cat (length cells.now) (stream_in (asked_of scope) s store.now) padded.now }
+    ensures tables { IfOk result (λ tables. (tables.catalogue ≡ cat) × (tables.cells.now ≡ cells.now)) }
 {
-    let f = tables::fault(cat, cells.len());
-    if f != 0 {
-        return f;
+    let tables = Tables::new(cat, cells)?;
+    check_record(&tables, store, s, scope)?;
+    if padded.len() < cat.m {
+        return Err(Refusal::ShortOutput);
     }
-    if missing(cat, scope) {
-        return 13;
-    }
-    if record_unfit(cat, low, high, left, right, s) {
-        return 13;
-    }
-    let m = cat.m;
-    if padded.len() < m {
-        return 11;
-    }
-    0
+    Ok(tables)
 }
 
 // The trial of the row at place next row on the set in record taken - 1.
 // Its end is an offer to the store, so that a refused trial leaves no mark; a set that is not asked for is not searched for.
 fn trial(
-    cat: Catalogue,
-    cells: &[u64],
-    layout: Layout,
-    low: &mut [u64],
-    high: &mut [u64],
-    left: &mut [u16],
-    right: &mut [u16],
+    layout: &Layout<'_>,
+    store: &mut Store<'_>,
     s: StreamRecord,
     scope: Scope,
-) -> Tried
-    requires { Lawful cat (length cells.now) × LaidOut cat cells.now layout × Fit cat (state_with (asked_of scope) s low.old high.old left.old right.old) × (s.next_row < total cat) }
-    ensures { Tries cat cells.now (asked_of scope) s low.old high.old left.old right.old result low.new high.new left.new right.new }
+) -> Result<Done, Refusal>
+    requires { Fit layout.now.tables.catalogue (stream_in (asked_of scope) s store.old) × (s.next_row < total layout.now.tables.catalogue) }
+    ensures refusal { IfErr result (λ refusal. number refusal ≡ refused_by (trial_on layout.now.tables.catalogue layout.now.tables.cells.now (stream_in (asked_of scope) s store.old))) }
+    ensures did { IfOk result (Did layout.now.tables (asked_of scope) s store.old store.new) }
+    ensures no_mark { OnErr result (NoMark store.old store.new) }
+    ensures same { SameSlices store.old store.new }
 {
-    let last = s.taken - 1;
-    let key = store::key_at(low, high, last);
-    if !rows::key_named(cat, key) {
-        return Tried::Damaged;
+    let key = store.key_at(s.taken - 1);
+    if !rows::named(&layout.tables, key) {
+        return Err(Refusal::DamagedStore);
     }
-    let row = tables::row_at(cat, s.next_row);
-    let g = sets::trial_set(cat, cells, layout, key, row);
-    let found = s.found;
-    if !wants(scope, g.key) {
-        return Tried::Done(found, g.tests, 0);
-    }
-    let deepest = keys::key_bits(cat.n);
-    match store::offer(low, high, left, right, found, g.key, deepest) {
-        Placed::Known { looks } => Tried::Done(found, g.tests, looks),
-        Placed::Added { looks } => Tried::Done(found + 1, g.tests, looks),
-        Placed::Full => Tried::Full,
-        Placed::Broken => Tried::Damaged,
-    }
-}
-
-// An answer with no set, after these counts.
-fn told(
-    answer: Answer,
-    stream: StreamRecord,
-    trials: usize,
-    tests: usize,
-    looks: usize,
-) -> StepAnswer
-    ensures { result ≡ record { answer = answer; key = record { low = 0; high = 0 }; trials = trials; tests = tests; looks = looks; stream = stream } }
-{
-    StepAnswer {
-        answer,
-        key: Key { low: 0, high: 0 },
-        trials,
-        tests,
+    let row = layout.tables.row_at(s.next_row);
+    let grown = layout.trial(key, row);
+    let (found, looks) = if scope.wants(grown.key) {
+        let deepest = Key::bits(layout.tables.catalogue.n);
+        match store.offer(s.found, grown.key, deepest)? {
+            Offered::Known { looks } => (s.found, looks),
+            Offered::Added { looks } => (s.found + 1, looks),
+        }
+    } else {
+        (s.found, 0)
+    };
+    Ok(Done {
+        found,
+        tests: grown.tests,
         looks,
-        stream,
-    }
+    })
 }
 
 // The end of a call where next row is N: hands out record `taken` with its padded row, or says that all are handed out.
 fn hand_out(
-    cat: Catalogue,
-    cells: &[u64],
-    low: &[u64],
-    high: &[u64],
-    s: StreamRecord,
-    trials: usize,
-    tests: usize,
-    looks: usize,
+    tables: &Tables<'_>,
+    store: &Store<'_>,
+    stream: StreamRecord,
+    counts: Counts,
     padded: &mut [u64],
-) -> StepAnswer
-    requires { Lawful cat (length cells.now) × (s.next_row ≡ total cat) × (s.taken ≤ s.found) × (s.found ≤ length low.now) × (s.found ≤ length high.now) × (cat.m ≤ length padded.old) }
-    ensures { Ends cat cells.now s trials tests looks low.now high.now padded.old result padded.new }
+) -> Stepped<StreamRecord>
+    requires { (stream.next_row ≡ total tables.now.catalogue) × (stream.taken ≤ stream.found) × (stream.found ≤ room_for store.now) × (tables.now.catalogue.m ≤ length padded.old) }
+    ensures { Ends tables.now stream counts store.now padded.old result padded.new }
 {
-    let taken = s.taken;
-    if taken == s.found {
-        return told(Answer::Finished, s, trials, tests, looks);
+    if stream.taken == stream.found {
+        return Stepped {
+            answer: Answer::Finished,
+            counts,
+            stream,
+        };
     }
-    let key = store::key_at(low, high, taken);
-    if !rows::key_named(cat, key) {
-        return told(Answer::Refused(14), s, trials, tests, looks);
+    let key = store.key_at(stream.taken);
+    if !rows::named(tables, key) {
+        return Stepped {
+            answer: Answer::Refused(Refusal::DamagedStore),
+            counts,
+            stream,
+        };
     }
-    padding::pad(cat, cells, key, padded);
-    StepAnswer {
-        answer: Answer::Set,
-        key,
-        trials,
-        tests,
-        looks,
+    padding::pad_row(tables, key, padded);
+    Stepped {
+        answer: Answer::Set(key),
+        counts,
         stream: StreamRecord {
-            found: s.found,
-            taken: taken + 1,
+            found: stream.found,
+            taken: stream.taken + 1,
             next_row: 0,
         },
     }
@@ -428,66 +336,50 @@ fn hand_out(
 // The trials of a call that meets no refusal before work, and its end.
 // A call makes at most N trials, so that none of its counts can wrap.
 fn work(
-    cat: Catalogue,
-    cells: &[u64],
-    low: &mut [u64],
-    high: &mut [u64],
-    left: &mut [u16],
-    right: &mut [u16],
-    s: StreamRecord,
+    layout: &Layout<'_>,
+    store: &mut Store<'_>,
+    from: StreamRecord,
     scope: Scope,
     budget: usize,
     padded: &mut [u64],
-) -> StepAnswer
-    requires { Lawful cat (length cells.now) × Fit cat (state_with (asked_of scope) s low.old high.old left.old right.old) × (cat.m ≤ length padded.old) }
-    ensures { called_with (asked_of scope) result low.new high.new left.new right.new padded.new ≡ work cat cells.now budget (state_with (asked_of scope) s low.old high.old left.old right.old) padded.old }
+) -> Stepped<StreamRecord>
+    requires { Fit layout.now.tables.catalogue (stream_in (asked_of scope) from store.old) × (layout.now.tables.catalogue.m ≤ length padded.old) }
+    ensures work { called_in (asked_of scope) result store.new padded.new ≡ work layout.now.tables.catalogue layout.now.tables.cells.now budget (stream_in (asked_of scope) from store.old) padded.old }
+    ensures same { SameSlices store.old store.new }
 {
-    let layout = sets::laid_out(cat, cells, budget);
-    let total = tables::total_rows(cat);
-    let taken = s.taken;
-    let mut found = s.found;
-    let mut next_row = s.next_row;
-    let mut spare = budget;
-    let mut trials: usize = 0;
-    let mut tests: usize = 0;
-    let mut looks: usize = 0;
-    while next_row < total {
-        let q = StreamRecord {
-            found,
-            taken,
-            next_row,
-        };
-        if spare == 0 {
-            return told(Answer::Working, q, trials, tests, looks);
+    let mut stream = from;
+    let mut counts = Counts::none();
+    for next_row in from.next_row..layout.measures.total {
+        if counts.trials == budget {
+            return Stepped {
+                answer: Answer::Working,
+                counts,
+                stream,
+            };
         }
-        match trial(cat, cells, layout, low, high, left, right, q, scope) {
-            Tried::Done(f, t, l) => {
-                found = f;
-                next_row = next_row + 1;
-                spare = spare - 1;
-                trials = trials + 1;
-                tests = tests + t;
-                looks = looks + l;
+        match trial(layout, store, stream, scope) {
+            Ok(done) => {
+                stream.found = done.found;
+                stream.next_row = next_row + 1;
+                counts.trials += 1;
+                counts.tests += done.tests;
+                counts.looks += done.looks;
             }
-            Tried::Full => {
-                return told(Answer::Refused(12), q, trials, tests, looks);
-            }
-            Tried::Damaged => {
-                return told(Answer::Refused(14), q, trials, tests, looks);
+            Err(refusal) => {
+                return Stepped {
+                    answer: Answer::Refused(refusal),
+                    counts,
+                    stream,
+                };
             }
         }
     }
-    let q = StreamRecord {
-        found,
-        taken,
-        next_row,
-    };
-    hand_out(cat, cells, low, high, q, trials, tests, looks, padded)
+    hand_out(&layout.tables, store, stream, counts, padded)
 }
 
-// One call of a stream, whatever it is asked for.
+// One call of a stream of what is asked for, with a budget of trials, the record by value.
 // What may be refused before work is refused before anything changes.
-fn call(
+pub fn step_for(
     cat: Catalogue,
     cells: &[u64],
     low: &mut [u64],
@@ -498,19 +390,29 @@ fn call(
     scope: Scope,
     budget: usize,
     padded: &mut [u64],
-) -> StepAnswer
-    ensures { called_with (asked_of scope) result low.new high.new left.new right.new padded.new ≡ call cat cells.now budget (state_with (asked_of scope) stream low.old high.old left.old right.old) padded.old }
+) -> Stepped<StreamRecord>
+    ensures { called_with (asked_of scope) (step_answer_of result) low.new high.new left.new right.new padded.new ≡ call cat cells.now budget (state_with (asked_of scope) stream low.old high.old left.old right.old) padded.old }
 {
-    let f = fault(cat, cells, low, high, left, right, stream, scope, padded);
-    if f != 0 {
-        return told(Answer::Refused(f), stream, 0, 0, 0);
+    let mut store = Store {
+        low,
+        high,
+        left,
+        right,
+    };
+    match check_call(cat, cells, &store, stream, scope, padded) {
+        Ok(tables) => {
+            let layout = Layout::new(tables, budget);
+            work(&layout, &mut store, stream, scope, budget, padded)
+        }
+        Err(refusal) => Stepped {
+            answer: Answer::Refused(refusal),
+            counts: Counts::none(),
+            stream,
+        },
     }
-    work(
-        cat, cells, low, high, left, right, stream, scope, budget, padded,
-    )
 }
 
-// One call of an open stream with a budget of trials, the record by value.
+// One call of a stream of every set.
 pub fn step(
     cat: Catalogue,
     cells: &[u64],
@@ -521,24 +423,16 @@ pub fn step(
     stream: StreamRecord,
     budget: usize,
     padded: &mut [u64],
-) -> StepAnswer
-    ensures { Steps cat cells.now low.old high.old left.old right.old stream budget padded.old result low.new high.new left.new right.new padded.new }
+) -> Stepped<StreamRecord>
+    ensures { Steps cat cells.now low.old high.old left.old right.old stream budget padded.old (step_answer_of result) low.new high.new left.new right.new padded.new }
 {
-    call(
-        cat,
-        cells,
-        low,
-        high,
-        left,
-        right,
-        stream,
-        Scope::Every,
-        budget,
-        padded,
+    let scope = Scope::Every;
+    step_for(
+        cat, cells, low, high, left, right, stream, scope, budget, padded,
     )
 }
 
-// One call of a stream of the sets that hold one row.
+// One call of a stream of the sets that hold one row, which stays the one that its record names.
 // Its trials are those of any stream; those whose set lacks the row make no search.
 pub fn step_holding(
     cat: Catalogue,
@@ -547,30 +441,22 @@ pub fn step_holding(
     high: &mut [u64],
     left: &mut [u16],
     right: &mut [u16],
-    stream: HoldingRecord,
+    held: HoldingRecord,
     budget: usize,
     padded: &mut [u64],
-) -> HoldingStepAnswer
-    ensures { StepsHolding cat cells.now low.old high.old left.old right.old stream budget padded.old result low.new high.new left.new right.new padded.new }
+) -> Stepped<HoldingRecord>
+    ensures { StepsHolding cat cells.now low.old high.old left.old right.old held budget padded.old (holding_step_answer_of result) low.new high.new left.new right.new padded.new }
 {
-    let table = stream.table;
-    let row = stream.row;
-    let before = stream.stream;
-    let scope = Scope::With(table, row);
-    let r = call(
-        cat, cells, low, high, left, right, before, scope, budget, padded,
+    let HoldingRecord { stream, table, row } = held;
+    let scope = Scope::With(Row { table, row });
+    let stepped = step_for(
+        cat, cells, low, high, left, right, stream, scope, budget, padded,
     );
-    let answer = r.answer;
-    let key = r.key;
-    let after = r.stream;
-    HoldingStepAnswer {
-        answer,
-        key,
-        trials: r.trials,
-        tests: r.tests,
-        looks: r.looks,
+    Stepped {
+        answer: stepped.answer,
+        counts: stepped.counts,
         stream: HoldingRecord {
-            stream: after,
+            stream: stepped.stream,
             table,
             row,
         },

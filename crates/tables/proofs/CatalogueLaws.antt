@@ -5,12 +5,15 @@ use native.Mathlib.Omega.{arith}
 use native.Mathlib.Numerals.{add-one, sub-one}
 use native.Mathlib.Decide.{ℕ_discrete}
 use mathlib.Core.Path.{◌≡◌, refl, sym, subst, ◌∙◌}
+use lib.ListN.{length, take}
+use Rattle.std.specs.List.{sum_by}
+use Rattle.std.proofs.lemmas.List.Sums.{sum_by_more}
 use lib.Count.{ones, ones-le, ones_cat, ones_step}
 use lib.Pow.{pow_pos, shr_lt, shl_exact, split}
 use borrow.Author.Tests.{lt-ltb, le-ltb}
 use Rattle.tables.specs.declared.Catalogue.{Catalogue}
 use Rattle.tables.specs.Sizes.{most_rows, most_cells, most_total}
-use Rattle.tables.specs.Catalogues.{scheme_of, count_of, first_cell, row_start, rows_before, row_from}
+use Rattle.tables.specs.Catalogues.{scheme_of, count_of, first_cell, place_in, row_start, rows_before, row_from}
 use Rattle.tables.specs.Checks.{Lawful}
 
 -- ---- one number
@@ -54,6 +57,12 @@ module _ (cat : Catalogue) where
   unfolding rows_before
   rows_next t = rw add-one
 
+  -- the rows of the first tables, as a sum of the counts
+  pub rows-taken : (t : ℕ) → t ≤ length cat.rows → sum_by (λ x. x) (take t cat.rows) ≡ rows_before cat t
+  unfolding rows_before
+  rows-taken zero h = refl
+  rows-taken (suc t) h = rw (← add-one t, sum_by_more (λ x. x) cat.rows t 0 (omega arith), rows-taken t (omega arith))
+
   cells-later : (t d : ℕ) → first_cell cat t ≤ first_cell cat (t + d)
   cells-later t zero = rw add-zero (omega arith)
   cells-later t (suc d) =
@@ -96,6 +105,10 @@ module _ (cat : Catalogue) (lent : ℕ) (L : Lawful cat lent) where
   pub row_inside : (t r : ℕ) → t < cat.n → 1 ≤ r → r ≤ count_of cat t → row_start cat t r + ones (scheme_of cat t) ≤ first_cell cat cat.n
   unfolding row_start
   row_inside t r h l k = omega (arith, table-ends cat t h, row_ends cat (ones (scheme_of cat t)) r (count_of cat t) l k)
+
+  -- the place stored of a table lies among the cells
+  pub place-inside : (t : ℕ) → t < cat.n → place_in cat t ≤ lent
+  place-inside t h = omega (arith, L.places t h, table-ends cat t h, L.room)
 
   -- every row has a cell, so there are no more rows than cells
   rows-cells : (t : ℕ) → t ≤ cat.n → rows_before cat t ≤ first_cell cat t

@@ -79,6 +79,14 @@ wide m x h =
       | no l ↦ omega arith
     ]
 
+-- the test as the code makes it, of a scheme that is not 0
+pub bad_scheme-parts : (m x : ℕ) → (x ≡ 0 → ⊥) → not (eqb (x / 2 ^ m) 0) ≡ bad_scheme m x
+bad_scheme-parts m x z =
+    elim (ℕ_discrete (x / 2 ^ m) 0) [
+      | yes e ↦ ap not (eq-eqb (x / 2 ^ m) 0 e) ∙ sym (scheme-good m x z (narrow m x e))
+      | no n ↦ ap not (ne_eqb (x / 2 ^ m) 0 n) ∙ sym (scheme-high m x z (wide m x n))
+    ]
+
 -- ---- 6, 8
 
 pub count-many : (most lent used x c : ℕ) → most < c → count_fault most lent used x c ≡ 6

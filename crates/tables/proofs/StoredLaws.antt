@@ -12,7 +12,6 @@ use lib.Count.{ones}
 use lib.Bits.{bit_and}
 use lib.Dec.{ltb}
 use borrow.Author.Tests.{lt-ltb, le-ltb, eq-eqb, ne_eqb}
-use Rattle.laws.specs.Lists.{tab}
 use Rattle.laws.proofs.ListLaws.{tab-at, length-tab}
 use Rattle.tables.specs.declared.Catalogue.{Catalogue}
 use Rattle.tables.specs.Sizes.{most_tables}

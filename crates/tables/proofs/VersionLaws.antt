@@ -1,12 +1,17 @@
 -- Which version tables carry, one law for each way that the code goes; and what either version allows. Assumes nothing.
-use Prim.Native.Nat.{ℕ, ◌≤◌, ◌<◌}
+use Prim.Native.Nat.{ℕ, zero, suc, ◌≤◌, ◌<◌}
 use native.Mathlib.Decide.{dec_lt}
 use native.Mathlib.Omega.{arith}
 use mathlib.Core.Path.{◌≡◌, refl, sym, ◌∙◌}
 use mathlib.Core.Logic.{◌⊎◌, inl, inr, ⊎_elim}
-use mathlib.Core.Bool.{Bool, true, false, not, cond}
+use mathlib.Core.Bool.{Bool, true, false, not, cond, or_comm}
 use mathlib.Core.List.{List}
-use lib.Dec.{eqb}
+use native.Mathlib.Numerals.{add-one}
+use lib.Dec.{eqb, ltb}
+use lib.ListN.{length, get_or, take}
+use Rattle.std.specs.List.{list_any}
+use Rattle.std.proofs.lemmas.List.Folds.{list_any_more}
+use Rattle.laws.specs.Tests.{any}
 use borrow.Author.Tests.{lt-ltb, le-ltb, ltb-true, eq-eqb, ne_eqb}
 use Rattle.laws.proofs.TestLaws.{clash, which, any_some, any_of, any_none}
 use Rattle.tables.specs.declared.Catalogue.{Catalogue}
@@ -46,6 +51,14 @@ blank-two v row e = rw (eq-eqb v version_two e)
 
 -- ---- the version of tables
 
+-- A test of the first k members of a list.
+any-taken : (p : ℕ → Bool) (xs : List ℕ) (k : ℕ) → k ≤ length xs → list_any p (take k xs) ≡ any k (λ i. p (get_or xs i 0))
+unfolding any
+any-taken p xs zero h = refl
+any-taken p xs (suc k) h =
+    let b : k < length xs = omega arith in
+    rw (← add-one k, list_any_more p xs k 0 b, any-taken p xs k (omega arith)) (or_comm (any k (λ i. p (get_or xs i 0))) (p (get_or xs k 0)))
+
 module _ (cat : Catalogue) where
   pub long-some : (t : ℕ) → t < cat.n → most_rows_one < count_of cat t → some_long cat ≡ true
   unfolding some_long
@@ -54,6 +67,11 @@ module _ (cat : Catalogue) where
   pub long-none : ((t : ℕ) → t < cat.n → count_of cat t ≤ most_rows_one) → some_long cat ≡ false
   unfolding some_long
   long-none h = any_none cat.n (long_table cat) (λ t l. le-ltb most_rows_one (count_of cat t) (h t l))
+
+  -- It is one of the row counts below n.
+  pub long-taken : cat.n ≤ length cat.rows → list_any (ltb most_rows_one) (take cat.n cat.rows) ≡ some_long cat
+  unfolding some_long
+  long-taken h = any-taken (ltb most_rows_one) cat.rows cat.n h
 
   -- Where there is one, it is some table,
   pub some-long : some_long cat ≡ true → (t : ℕ) × (t < cat.n) × (most_rows_one < count_of cat t)

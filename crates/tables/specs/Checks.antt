@@ -1,9 +1,10 @@
 -- The refusals that a catalogue can meet (4, 5, 6, 8; 16), each by its line of document 01's table or of #106, in their order; 0 stands for none.
 -- And what a catalogue that meets none is known to be. The law that ties the two stands in proofs/CheckLaws. Assumes nothing.
-use Rattle.std.specs.Prelude.{ℕ, zero, suc, ◌+◌, ◌*◌, ◌^◌, ◌≤◌, ◌<◌, ◌≡◌, Bool, not, cond, ◌||◌, List, ltb, leb, eqb}
+use Rattle.std.specs.Prelude.{ℕ, zero, suc, ◌+◌, ◌*◌, ◌^◌, ◌≤◌, ◌<◌, ◌≡◌, Bool, not, cond, ◌||◌, List, ltb, leb, eqb, Result, Ok, Err}
 use Rattle.std.specs.Int.Count.{ones}
 use Rattle.tables.specs.declared.Catalogue.{Catalogue}
-use Rattle.tables.specs.declared.Made.{Made}
+use Rattle.refusals.specs.declared.Refusal.{Refusal}
+use Rattle.refusals.specs.Refusals.{number}
 use Rattle.tables.specs.Sizes.{most_attributes, most_tables, most_rows, most_cells}
 use Rattle.laws.specs.Tests.{any}
 use Rattle.tables.specs.Catalogues.{scheme_of, count_of, first_cell, touching_of, filled, given, no_tables, place_in, mask_in}
@@ -78,6 +79,16 @@ pub record Lawful (cat : Catalogue) (lent : ℕ) : Type 0 where
   pub touching : (t : ℕ) → t < cat.n → mask_in cat t ≡ touching_of cat t
 
 -- ---- tables made by hand
+
+-- What a caller who made tables by hand is told: the number of their refusal, 0 for none, and the catalogue, of zeros where they are refused.
+pub record Made : Type 0 where
+  pub refusal : ℕ
+  pub catalogue : Catalogue
+
+-- That of the code's answer.
+abbrev pub made_of : Result Catalogue Refusal → Made
+made_of (Ok cat) = record { refusal = 0; catalogue = cat }
+made_of (Err refusal) = record { refusal = number refusal; catalogue = no_tables }
 
 -- "Load and all else that makes a catalogue fill them": the catalogue of such tables with both filled, or a catalogue of zeros where they are refused.
 abbrev pub made_if : ℕ → Catalogue → Made

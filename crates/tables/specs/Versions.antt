@@ -1,11 +1,25 @@
 -- "Images with a table above 255 rows carry version 2, all others version 1" (#110): which version tables need, and what either allows. What follows
 -- stands in proofs/VersionLaws. Assumes nothing.
-use Rattle.std.specs.Prelude.{ℕ, Bool, not, cond, ◌&&◌, ltb, eqb, List}
+use Rattle.std.specs.Prelude.{ℕ, ◌≡◌, ◌≢◌, Bool, not, cond, ◌&&◌, ltb, eqb, List, Result, MatchResult}
 use Rattle.laws.specs.Tests.{any}
+use Rattle.refusals.specs.declared.Refusal.{Refusal}
+use Rattle.refusals.specs.declared.Refusal.TheVariants.{UnknownVersion}
 use Rattle.tables.specs.declared.Catalogue.{Catalogue}
+use Rattle.tables.specs.declared.Version.{Version}
+use Rattle.tables.specs.declared.Version.TheVariants.{One, Two}
 use Rattle.tables.specs.Sizes.{most_rows, most_rows_one, version_one, version_two}
 use Rattle.tables.specs.Catalogues.{count_of}
 use Rattle.tables.specs.Rows.{all_null}
+
+-- The number of a version.
+abbrev pub version_number : Version → ℕ
+version_number One = version_one
+version_number Two = version_two
+
+-- What reading a version's number comes to: that version, or 3 where the number is neither 1 nor 2.
+abbrev pub Reads : ℕ → Result Version Refusal → Type 0
+Reads k r =
+    MatchResult r (λ version. version_number version ≡ k) (λ refusal. (refusal ≡ UnknownVersion) × (k ≢ version_one) × (k ≢ version_two))
 
 -- Table t passes 255 rows.
 abbrev pub long_table : Catalogue → ℕ → Bool

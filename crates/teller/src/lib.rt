@@ -2,22 +2,20 @@
 
 // What the programs are given and what they say: their arguments and their input, a refusal or a failure on standard error, and the first bytes of a buffer on
 // standard output. What the system gives or takes, no contract can say.
-ghost use Rattle.std.specs.Prelude.{◌≡◌, ◌≤◌, min, length};
+ghost use Rattle.std.specs.Prelude.{◌≡◌, ◌≤◌, length, take};
 ghost use Rattle.teller.specs.Counts.{IsPrefixLen};
 
+use lines::Cursor;
 use std::env::{Env, FillError};
 use std::io;
 use std::io::{Read, Write};
 
 // So many bytes of a buffer, or all that it has.
 // What is written is then just this front, neither less nor more.
-fn front(n: usize, buffer: &[u8]) -> usize
-    ensures { (result ≡ min n (length buffer.now)) × IsPrefixLen result buffer.now }
+fn front(n: usize, buffer: &[u8]) -> &[u8]
+    ensures { result.now ≡ take n buffer.now }
 {
-    if buffer.len() < n {
-        return buffer.len();
-    }
-    n
+    &buffer[..n.min(buffer.len())]
 }
 
 // How many arguments the program was started with, its own name among them.
@@ -30,27 +28,32 @@ pub fn arg_count(rt: &HostRuntime) -> usize {
     usize::MAX
 }
 
-// Puts an argument into the front of the buffer and gives its length.
+// An argument, in the front of the buffer.
 // One that is missing, or longer than the buffer, comes as no byte at all.
-pub fn arg(rt: &HostRuntime, i: usize, buffer: &mut [u8]) -> usize
-    ensures { IsPrefixLen result buffer.new }
+pub fn arg<'a>(rt: &HostRuntime, i: usize, buffer: &'a mut [u8]) -> &'a [u8]
+    ensures { length result.now ≤ length buffer.old }
 {
-    match rt.arg(i, buffer) {
-        Ok(n) => n,
-        Err(_) => 0,
-    }
+    let n = rt.arg(i, buffer).unwrap_or(0);
+    &buffer[..n]
+}
+
+// The number that an argument says in decimal digits, if it says one.
+// At most 64 bytes are read, so that a number with more zeros in front is told as none.
+pub fn number(rt: &HostRuntime, i: usize) -> Option<u64> {
+    let mut word = [0u8; 64];
+    lines::read_decimal(arg(rt, i, &mut word))
 }
 
 // Reads until the buffer is full, the input ends or a read fails, and gives how many bytes came into its front.
+// By hand, for std has no method that does so and tells how many bytes came.
 pub fn read_full<R: Read>(from: &mut R, buffer: &mut [u8]) -> usize
     ensures { IsPrefixLen result buffer.new }
 {
-    let mut n: usize = 0;
+    let mut n = 0;
     while n < buffer.len() {
         match from.read(&mut buffer[n..]) {
-            Ok(0) => return n,
-            Ok(more) => n = n + more,
-            Err(_) => return n,
+            Ok(more) if 0 < more => n += more,
+            _ => break,
         }
     }
     n
@@ -85,21 +88,23 @@ pub fn fail(rt: &HostRuntime, what: &[u8], error: &io::Error) {
 }
 
 // Tells a refusal: its number, and the numbers that say where it was met.
-// It writes, which no contract can say; the line is that of `lines::put_line`.
+// It writes, which no contract can say; the line is that of `Cursor::line`.
 pub fn tell(rt: &HostRuntime, numbers: &[u64])
     requires { length numbers.now ≤ 3 }
 {
     let mut line = [0u8; 128];
-    let n = lines::put_line(b"refused", numbers, &mut line, 0);
-    let filled = front(n, &line);
-    say(rt, &line[..filled]);
+    let mut to = Cursor {
+        out: &mut line,
+        at: 0,
+    };
+    to.line(b"refused", numbers);
+    say(rt, front(to.at, to.out));
 }
 
 // Writes the first bytes of a buffer to standard output, which no contract can say.
 // A write that fails is told.
 pub fn send(rt: &HostRuntime, out: &[u8], n: usize) {
-    let filled = front(n, out);
-    if let Err(error) = rt.stdout().write_all(&out[..filled]) {
+    if let Err(error) = rt.stdout().write_all(front(n, out)) {
         fail(rt, b"write", &error);
     }
 }

@@ -13,7 +13,8 @@ use Rattle.text.specs.declared.Act.{Act}
 use Rattle.text.specs.declared.Act.TheVariants.{Takes, Marks, NextField, NextLine, Breaks}
 use Rattle.text.specs.declared.Fielded.{Fielded}
 use Rattle.text.specs.declared.Fielded.TheVariants.{ToComma, ToLine, Nothing, OutsideHere}
-use Rattle.text.specs.Fields.{field_end, field_on, field_from, field_at, lines_field, code_of, next_of, codes_at}
+use Rattle.text.specs.declared.CodeAt.{CodeAt}
+use Rattle.text.specs.Fields.{Reads, field_end, field_on, field_from, field_at, lines_field, code_of, next_of, codes_at}
 
 -- ---- the next byte
 
@@ -132,6 +133,10 @@ pub codes-next : (k : ℕ) (s : List ℕ) (at : ℕ) → 0 < k → codes_at k s 
 unfolding codes_at
 codes-next zero s at h = absurd (omega arith)
 codes-next (suc k) s at h = rw (sub-one (suc k))
+
+-- The same of a field that was read.
+pub codes-read : (k : ℕ) (s : List ℕ) (at : ℕ) (r : CodeAt) → 0 < k → Reads s at r → codes_at k s at ≡ r.code ∷ codes_at (k - 1) s r.next
+codes-read k s at r h e = codes-next k s at h ∙ rw (e.code, e.next)
 
 pub length-codes-at : (k : ℕ) (s : List ℕ) (at : ℕ) → length (codes_at k s at) ≡ k
 unfolding codes_at

@@ -93,11 +93,8 @@ module _ (c b : ℕ) (l : digit_zero ≤ b) (h : b ≤ digit_zero + 9) where
   pub code-behind-zero : c ≡ 1 → code_on c b ≡ no_code
   code-behind-zero e = rw e (code-zero b)
 
-  pub code-over : 1 < c → no_code ≤ 10 * (c - 1) + (b - digit_zero) + 1 → code_on c b ≡ no_code
-  code-over z k = code-next c b (digit-is b l h) z ∙ omega arith
-
-  pub code-longer : 1 < c → 10 * (c - 1) + (b - digit_zero) + 1 ≤ no_code → code_on c b ≡ 10 * (c - 1) + (b - digit_zero) + 1
-  code-longer z k = code-next c b (digit-is b l h) z ∙ omega arith
+  pub code-digit : 1 < c → code_on c b ≡ min (10 * (c - 1) + (b - digit_zero) + 1) no_code
+  code-digit z = code-next c b (digit-is b l h) z
 
 -- ---- the reading
 

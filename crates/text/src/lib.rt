@@ -3,11 +3,15 @@
 // Comma-separated text after RFC 4180, field by field: what each byte means where it stands, and the code that a field spells.
 // What a text of such fields tells, and how a table is written as one, stands in specs/; the importer reads, the exporter writes.
 ghost use Rattle.std.specs.Prelude.{◌≡◌, ◌≤◌};
+ghost use Rattle.std.specs.Iterator.{YieldsFirst, item_count};
 ghost use Rattle.text.specs.Lines.{no_code, kind_of, act, code_on};
-ghost use Rattle.text.specs.Fields.{field_at, Reads};
+ghost use Rattle.text.specs.Fields.{field_at, codes_at, Reads};
+
+// "24: a cell .. above 2^63 - 2": no cell has this code, which stands for every field that is written otherwise.
+pub const NO_CODE: u64 = 1 << 63;
 
 // What the grammar tells apart in a byte.
-#[derive(Clone, Copy)]
+#[derive(Clone, Copy, PartialEq, Eq, Debug)]
 pub enum Kind {
     TextByte,
     QuoteByte,
@@ -19,7 +23,7 @@ pub enum Kind {
 
 // Where in a field a byte stands: at its first byte, in a plain one, between quotes,
 // behind a quote in a quoted one (its last, or the first of two), or behind the CR after it.
-#[derive(Clone, Copy)]
+#[derive(Clone, Copy, PartialEq, Eq, Debug)]
 pub enum Form {
     AtStart,
     InPlain,
@@ -29,7 +33,7 @@ pub enum Form {
 }
 
 // What a byte does: it belongs to the field's content, or is a mark around it; it ends the field, or with it the line; or it stands outside the grammar.
-#[derive(Clone, Copy)]
+#[derive(Clone, Copy, PartialEq, Eq, Debug)]
 pub enum Act {
     Takes(Form),
     Marks(Form),
@@ -40,7 +44,7 @@ pub enum Act {
 
 // A field: its code and the place behind what ends it, a comma or the line (CRLF, or the text's end).
 // Or the text ends where the field begins, or no field of the grammar stands there.
-#[derive(Clone, Copy)]
+#[derive(Clone, Copy, PartialEq, Eq, Debug)]
 pub enum Fielded {
     ToComma(u64, usize),
     ToLine(u64, usize),
@@ -50,111 +54,85 @@ pub enum Fielded {
 
 // A field's code and the place behind it.
 #[derive(Clone, Copy)]
-pub struct CodeAt {
+struct CodeAt {
     pub code: u64,
     pub next: usize,
 }
 
 // What a byte is to the grammar.
-fn kind_of(b: u8) -> Kind
-    ensures { result ≡ kind_of b }
-{
-    if b == b'"' {
-        return Kind::QuoteByte;
+impl From<u8> for Kind {
+    ghost from_gives = { λ b kind. kind ≡ kind_of b };
+
+    fn from(b: u8) -> Kind {
+        match b {
+            b'"' => Kind::QuoteByte,
+            b',' => Kind::CommaByte,
+            b'\r' => Kind::CrByte,
+            b'\n' => Kind::LfByte,
+            0x20..=0x7E => Kind::TextByte,
+            _ => Kind::OtherByte,
+        }
     }
-    if b == b',' {
-        return Kind::CommaByte;
-    }
-    if b == b'\r' {
-        return Kind::CrByte;
-    }
-    if b == b'\n' {
-        return Kind::LfByte;
-    }
-    if b < 32 {
-        return Kind::OtherByte;
-    }
-    if 126 < b {
-        return Kind::OtherByte;
-    }
-    Kind::TextByte
 }
 
-// What a byte of a kind does where it stands.
-fn act_of(form: Form, kind: Kind) -> Act
-    ensures { result ≡ act form kind }
-{
-    match form {
-        Form::AtStart => match kind {
-            Kind::TextByte => Act::Takes(Form::InPlain),
-            Kind::QuoteByte => Act::Marks(Form::InQuotes),
-            Kind::CommaByte => Act::NextField,
-            Kind::CrByte => Act::Marks(Form::AfterCr),
-            Kind::LfByte => Act::Breaks,
-            Kind::OtherByte => Act::Breaks,
-        },
-        Form::InPlain => match kind {
-            Kind::TextByte => Act::Takes(Form::InPlain),
-            Kind::CommaByte => Act::NextField,
-            Kind::CrByte => Act::Marks(Form::AfterCr),
-            Kind::QuoteByte => Act::Breaks,
-            Kind::LfByte => Act::Breaks,
-            Kind::OtherByte => Act::Breaks,
-        },
-        Form::InQuotes => match kind {
-            Kind::QuoteByte => Act::Marks(Form::AfterQuote),
-            Kind::TextByte => Act::Takes(Form::InQuotes),
-            Kind::CommaByte => Act::Takes(Form::InQuotes),
-            Kind::CrByte => Act::Takes(Form::InQuotes),
-            Kind::LfByte => Act::Takes(Form::InQuotes),
-            Kind::OtherByte => Act::Breaks,
-        },
-        Form::AfterQuote => match kind {
-            Kind::QuoteByte => Act::Takes(Form::InQuotes),
-            Kind::CommaByte => Act::NextField,
-            Kind::CrByte => Act::Marks(Form::AfterCr),
-            Kind::TextByte => Act::Breaks,
-            Kind::LfByte => Act::Breaks,
-            Kind::OtherByte => Act::Breaks,
-        },
-        Form::AfterCr => match kind {
-            Kind::LfByte => Act::NextLine,
-            Kind::TextByte => Act::Breaks,
-            Kind::QuoteByte => Act::Breaks,
-            Kind::CommaByte => Act::Breaks,
-            Kind::CrByte => Act::Breaks,
-            Kind::OtherByte => Act::Breaks,
-        },
+impl Form {
+    // What a byte of a kind does where it stands.
+    fn act(self, kind: Kind) -> Act
+        ensures { result ≡ act self kind }
+    {
+        match self {
+            Form::AtStart => match kind {
+                Kind::TextByte => Act::Takes(Form::InPlain),
+                Kind::QuoteByte => Act::Marks(Form::InQuotes),
+                Kind::CommaByte => Act::NextField,
+                Kind::CrByte => Act::Marks(Form::AfterCr),
+                Kind::LfByte | Kind::OtherByte => Act::Breaks,
+            },
+            Form::InPlain => match kind {
+                Kind::TextByte => Act::Takes(Form::InPlain),
+                Kind::CommaByte => Act::NextField,
+                Kind::CrByte => Act::Marks(Form::AfterCr),
+                Kind::QuoteByte | Kind::LfByte | Kind::OtherByte => Act::Breaks,
+            },
+            Form::InQuotes => match kind {
+                Kind::QuoteByte => Act::Marks(Form::AfterQuote),
+                Kind::TextByte | Kind::CommaByte | Kind::CrByte | Kind::LfByte => Act::Takes(
+                    Form::InQuotes,
+                ),
+                Kind::OtherByte => Act::Breaks,
+            },
+            Form::AfterQuote => match kind {
+                Kind::QuoteByte => Act::Takes(Form::InQuotes),
+                Kind::CommaByte => Act::NextField,
+                Kind::CrByte => Act::Marks(Form::AfterCr),
+                Kind::TextByte | Kind::LfByte | Kind::OtherByte => Act::Breaks,
+            },
+            Form::AfterCr => match kind {
+                Kind::LfByte => Act::NextLine,
+                _ => Act::Breaks,
+            },
+        }
     }
 }
 
 // The code of a field of the code c so far that goes on with the byte b: 0 of what is empty, else the value plus 1, and 2^63 of what is no cell.
-// No product wraps: what passes 2^63 stays there, and is tested for before it is multiplied.
+// No product wraps: what passes 2^63 stays there.
 fn code_on(c: u64, b: u8) -> u64
     requires { c ≤ no_code }
     ensures { (result ≡ code_on c b) × (result ≤ no_code) }
 {
-    if b < b'0' {
-        return 9223372036854775808;
+    if !b.is_ascii_digit() {
+        return NO_CODE;
     }
-    if b'9' < b {
-        return 9223372036854775808;
+    let digit = u64::from(b - b'0');
+    match c {
+        0 => digit + 1,
+        1 => NO_CODE,
+        _ => (c - 1)
+            .saturating_mul(10)
+            .saturating_add(digit + 1)
+            .min(NO_CODE),
     }
-    let digit = (b - b'0') as u64;
-    if c == 0 {
-        return digit + 1;
-    }
-    if c == 1 {
-        return 9223372036854775808;
-    }
-    if 922337203685477580 < c - 1 {
-        return 9223372036854775808;
-    }
-    let longer = 10 * (c - 1) + digit + 1;
-    if 9223372036854775808 < longer {
-        return 9223372036854775808;
-    }
-    longer
 }
 
 // The field that begins at a place.
@@ -164,10 +142,9 @@ pub fn field_at(text: &[u8], at: usize) -> Fielded
 {
     let mut form = Form::AtStart;
     let mut code: u64 = 0;
-    let mut i = at;
-    while i < text.len() {
+    for i in at..text.len() {
         let b = text[i];
-        match act_of(form, kind_of(b)) {
+        match form.act(Kind::from(b)) {
             Act::Takes(next) => {
                 form = next;
                 code = code_on(code, b);
@@ -179,38 +156,52 @@ pub fn field_at(text: &[u8], at: usize) -> Fielded
             Act::NextLine => return Fielded::ToLine(code, i + 1),
             Act::Breaks => return Fielded::OutsideHere,
         }
-        i = i + 1;
     }
     match form {
         Form::AtStart => Fielded::Nothing(code),
-        Form::InPlain => Fielded::ToLine(code, i),
-        Form::AfterQuote => Fielded::ToLine(code, i),
-        Form::InQuotes => Fielded::OutsideHere,
-        Form::AfterCr => Fielded::OutsideHere,
+        Form::InPlain | Form::AfterQuote => Fielded::ToLine(code, text.len()),
+        Form::InQuotes | Form::AfterCr => Fielded::OutsideHere,
     }
 }
 
 // The code of the field that begins at a place, and the place behind it.
 // For lines that were read before and found good: they are read again to be compared, and to fill the cells.
-pub fn code_at(text: &[u8], at: usize) -> CodeAt
+#[tactic(auto, unfolding(crate::specs::Fields::code_of, crate::specs::Fields::next_of))]
+fn code_at(text: &[u8], at: usize) -> CodeAt
     ensures { Reads text.now at result }
 {
     match field_at(text, at) {
-        Fielded::ToComma(code, next) => CodeAt {
-            code: code,
-            next: next,
-        },
-        Fielded::ToLine(code, next) => CodeAt {
-            code: code,
-            next: next,
-        },
-        Fielded::Nothing(code) => CodeAt {
-            code: code,
-            next: at,
-        },
+        Fielded::ToComma(code, next) | Fielded::ToLine(code, next) => CodeAt { code, next },
+        Fielded::Nothing(code) => CodeAt { code, next: at },
         Fielded::OutsideHere => CodeAt {
-            code: 9223372036854775808,
+            code: NO_CODE,
             next: at,
         },
+    }
+}
+
+// The codes of the fields of a line: those of so many fields, the first of which begins at a place.
+#[derive(Clone, Copy, Drop)]
+pub struct Codes<'a> {
+    pub text: &'a [u8],
+    pub at: usize,
+    pub left: usize,
+}
+
+impl<'a> Iterator for Codes<'a> {
+    type Item = u64;
+
+    ghost next_gives = { YieldsFirst (λ s. codes_at s.left s.text.now s.at) };
+
+    ghost remaining = { item_count (λ s. codes_at s.left s.text.now s.at) };
+
+    fn next(&mut self) -> Option<u64> {
+        if self.left == 0 {
+            return None;
+        }
+        self.left -= 1;
+        let field = code_at(self.text, self.at);
+        self.at = field.next;
+        Some(field.code)
     }
 }

@@ -5,9 +5,8 @@ use native.Mathlib.Nat.{zero-add}
 use native.Mathlib.Omega.{arith}
 use mathlib.Core.Path.{◌≡◌, refl, sym, ◌∙◌}
 use mathlib.Core.Bool.{Bool, true, false, cond, ◌||◌}
-use mathlib.Core.List.{List, [], ◌∷◌}
-use lib.ListN.{length, drop}
-use lib.Seq.{drop-drop}
+use mathlib.Core.List.{List}
+use lib.ListN.{length}
 use lib.Count.{ones}
 use lib.Dec.{ltb}
 use Rattle.laws.specs.Lists.{part}
@@ -18,33 +17,15 @@ use Rattle.tables.specs.Checks.{first_met, outside, size_fault, bad_scheme, coun
 use Rattle.tables.specs.Versions.{version_of, blank}
 use Rattle.tables.proofs.CheckLaws.{stored-right, stored-good}
 use Rattle.tables.proofs.StoredLaws.{for-at, filled-first, filled-touching}
-use Rattle.tables.proofs.VersionLaws.{blank-other, long-none, version-one}
+use Rattle.tables.proofs.VersionLaws.{long-none, version-one}
 use Rattle.writer.specs.Write.{too_high as too_high_of, rows_fault as rows_fault_of, cells_fault, write_fault as image_fault}
-use Rattle.text.specs.Writing.{cut, too_high, rows_fault, all_fault, table_fault, write_fault}
+use Rattle.text.specs.Writing.{table_fault, write_fault}
+use Rattle.exporter.proofs.CheckLaws.{none-blank, all-rows}
 use Rattle.text_claims.specs.TextClaims.{said_alone, alone, SameRefusals}
 
 -- ---- 10 and 7
 
-high_is : (r : List ℕ) → too_high_of r ≡ too_high r
-unfolding too_high too_high_of
-high_is [] = refl
-high_is (x ∷ r) = rw (high_is r)
-
--- In version 1 no row is 21.
-none-blank : (r : List ℕ) → blank version_one r ≡ false
-none-blank r = blank-other version_one r (λ e. absurd (omega arith))
-
 module _ (w : ℕ) (cells : List ℕ) where
-  later_rows : (k before at : ℕ) → rows_fault_of k w cells version_one false before at ≡ rows_fault (part before w cells) (cut k w (drop at cells))
-  unfolding rows_fault rows_fault_of cut
-  later_rows zero before at = refl
-  later_rows (suc k) before at = rw (high_is (part at w cells), none-blank (part at w cells), later_rows k at (at + w), ← drop-drop w at cells)
-
-  all-rows : (k : ℕ) → rows_fault_of k w cells version_one true 0 0 ≡ all_fault (cut k w cells)
-  unfolding all_fault rows_fault_of cut
-  all-rows zero = refl
-  all-rows (suc k) = rw (high_is (part 0 w cells), none-blank (part 0 w cells), later_rows k 0 (0 + w), ← drop-drop w 0 cells)
-
   -- Rows whose refusal is not 21 meet the one that they meet in version 1.
   rows_aside : (v k : ℕ) (first : Bool) (before at : ℕ) → (rows_fault_of k w cells v first before at ≡ 21 → ⊥)
       → rows_fault_of k w cells v first before at ≡ rows_fault_of k w cells version_one first before at

@@ -7,8 +7,7 @@ use lib.ListN.{length}
 use Rattle.text.specs.Reading.{Told, table, refused, read_of, cells_after}
 use Rattle.text.specs.Refusals.{ReadWhole}
 use Rattle.text.proofs.TextExactly.{text-exact}
-use Rattle.importer.specs.declared.TextRead.{TextRead}
-use Rattle.importer.specs.declared.TextRead.TheVariants.{Table, Refused}
+use Rattle.importer.specs.Answers.{TextRead, Table, Refused}
 use Rattle.importer.specs.Promise.{answer_of, ReadsText}
 use Rattle.text_claims.specs.TextClaims.{ReadExactly, OneReading}
 

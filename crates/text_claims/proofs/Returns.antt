@@ -9,10 +9,9 @@ use Rattle.laws.specs.Lists.{put}
 use Rattle.text.specs.Reading.{Told, table, read_of, cells_after}
 use Rattle.text.specs.Writing.{cut, Wrote, write_of, output_after}
 use Rattle.text.proofs.RoundTrip.{round_trip, flat-cut, length_cut}
-use Rattle.importer.specs.declared.TextRead.{TextRead}
-use Rattle.importer.specs.declared.TextRead.TheVariants.{Table}
+use Rattle.importer.specs.Answers.{TextRead, Table}
 use Rattle.importer.specs.Promise.{answer_of, ReadsText}
-use Rattle.exporter.specs.declared.TextWritten.TheVariants.{Length}
+use Rattle.exporter.specs.TextWritten.{Length}
 use Rattle.exporter.specs.Promise.{WritesText}
 use Rattle.text_claims.specs.TextClaims.{ComesBack}
 use Rattle.text_claims.proofs.Writings.{was-written}

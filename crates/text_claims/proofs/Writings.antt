@@ -6,8 +6,7 @@ use mathlib.Core.List.{List}
 use lib.ListN.{length}
 use Rattle.text.specs.Writing.{Wrote, wrote, unwritten, write_of, output_after}
 use Rattle.text.proofs.WriteExactly.{write-exact}
-use Rattle.exporter.specs.declared.TextWritten.{TextWritten}
-use Rattle.exporter.specs.declared.TextWritten.TheVariants.{Length, Refused}
+use Rattle.exporter.specs.TextWritten.{TextWritten, Length, Refused}
 use Rattle.exporter.specs.Promise.{answer_of, WritesText}
 use Rattle.text_claims.specs.TextClaims.{WriteExactly, OneWriting}
 

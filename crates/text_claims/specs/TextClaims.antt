@@ -11,11 +11,9 @@ use Rattle.writer.specs.Write.{rows_fault, write_fault as image_fault}
 use Rattle.text.specs.Reading.{flat}
 use Rattle.text.specs.Refusals.{FirstFault, ReadWhole, WriteFault, TablePasses, RowsPass}
 use Rattle.text.specs.Writing.{text_of, cut, write_fault}
-use Rattle.importer.specs.declared.TextRead.{TextRead}
-use Rattle.importer.specs.declared.TextRead.TheVariants.{Table, Refused}
+use Rattle.importer.specs.Answers.{TextRead, Table, Refused}
 use Rattle.importer.specs.Promise.{ReadsText}
-use Rattle.exporter.specs.declared.TextWritten.{TextWritten}
-use Rattle.exporter.specs.declared.TextWritten.TheVariants.{Length, Refused as Unwritten}
+use Rattle.exporter.specs.TextWritten.{TextWritten, Length, Refused as Unwritten}
 use Rattle.exporter.specs.Promise.{WritesText}
 
 -- Of a reading of the bytes s with m attributes into the lent cells.

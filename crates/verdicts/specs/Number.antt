@@ -1,7 +1,6 @@
 -- "... gives one number: place x 32 + refusal, and 0 for good." And what that number does not tell. Assumes nothing.
 use Rattle.std.specs.Prelude.{ℕ, ◌+◌, ◌*◌}
-use Rattle.loader.specs.declared.Verdict.{Verdict}
-use Rattle.loader.specs.declared.Verdict.TheVariants.{Good, Refused}
+use Rattle.loader.specs.Faults.{Verdict, Good, Refused}
 
 -- The number of a verdict.
 abbrev pub door_number : Verdict → ℕ

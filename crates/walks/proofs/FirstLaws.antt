@@ -5,6 +5,8 @@ use mathlib.Core.Bool.{Bool, false}
 use native.Mathlib.Omega.{arith}
 use native.Mathlib.Nat.{suc-mul, mul-le-mul_right}
 use native.Mathlib.Numerals.{add-one}
+use lib.Count.{ones}
+use Rattle.walks.specs.Merged.{row_in}
 use Rattle.walks.specs.Firsts.{FirstIn, NoneIn}
 
 -- ---- the first that passes
@@ -25,6 +27,6 @@ start-next base w i = rw (add-one i) (omega (arith, suc-mul i w))
 pub start-inside : (base w i k lent : ℕ) → i < k → base + k * w ≤ lent → (base + i * w) + w ≤ lent
 start-inside base w i k lent l h = omega (arith, suc-mul i w, mul-le-mul_right w l)
 
--- A column's cells are there where that of the last of k rows is.
-pub cell-inside : (first w i k lent : ℕ) → i < k → first + k * w < lent + w → first + i * w < lent
-cell-inside first w i k lent l h = omega (arith, h, start-inside first w i k (first + k * w) l (omega arith))
+-- A row's cells are there where those of all k rows are.
+pub row-inside : (scheme base i k lent : ℕ) → i < k → row_in base scheme k ≤ lent → row_in base scheme i + ones scheme ≤ lent
+row-inside scheme base i k lent l h = start-inside base (ones scheme) i k lent l h

@@ -1,4 +1,5 @@
 pub mod MatchLaws
+pub mod BitLaws
 pub mod CursorLaws
 pub mod FirstLaws
 pub mod PlaceLaws

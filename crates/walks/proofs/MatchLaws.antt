@@ -8,24 +8,26 @@ use mathlib.Core.List.{List}
 use native.Mathlib.Omega.{arith}
 use native.Mathlib.Decide.{ℕ_discrete}
 use lib.ListN.{length, get_or, set, length-set}
+use lib.Bits.{bit_and}
 use lib.Seq.{get_or-set_same, get_or-set_other}
 use borrow.Author.Tests.{not-true}
-use Rattle.laws.proofs.TestLaws.{which, clash, not_yes, iff-eq, or_case, or_left, or_right, all-each, all_of}
+use Rattle.std.specs.Bool.{MatchBool}
+use Rattle.laws.proofs.TestLaws.{which, clash, not_yes, and_split, iff-eq, or_case, or_left, or_right, all-each, all_of}
 use Rattle.words.specs.Words.{bit_of, LowestBit}
-use Rattle.words.proofs.WordLaws.{zero_bit, bit-lt, less-lt, bit-gone, bit_kept}
+use Rattle.words.proofs.WordLaws.{zero_bit, bit-and, bit-lt, bit-gone, bit_kept}
 use Rattle.tables.specs.Catalogues.{code_at}
 use Rattle.disjunction.specs.Cells.{same}
 use Rattle.disjunction.proofs.CellLaws.{same-iff}
 use Rattle.walks.specs.Merged.{merged_length, Same, Under, Values, matches, joint, Joined}
 
+-- What a scheme shares with other attributes is its own.
+pub shared-under : (scheme attrs : ℕ) → Under (bit_and scheme attrs) scheme
+shared-under scheme attrs a b = (and_split (bit_of scheme a) (bit_of attrs a) (sym (bit-and scheme attrs a) ∙ b)).0
+
 -- ---- a bit taken from a mask
 
 module _ (rest a : ℕ) (l : LowestBit merged_length rest a) where
-  -- What is left is smaller,
-  pub bit-fewer : rest - 2 ^ a < rest
-  bit-fewer = less-lt rest a l.itself
-
-  -- lies under what the mask lay under,
+  -- What is left lies under what the mask lay under,
   pub under-less : (whole : ℕ) → Under rest whole → Under (rest - 2 ^ a) whole
   under-less whole h d e = go (ℕ_discrete d a)
     where
@@ -44,10 +46,6 @@ module _ (rest a : ℕ) (l : LowestBit merged_length rest a) where
   -- So a bit of the mask is the one taken or is left.
   pub bit-left : (d : ℕ) → bit_of rest d ≡ true → (d ≡ a) ⊎ (bit_of (rest - 2 ^ a) d ≡ true)
   bit-left d e = ⊎_elim (λ f. inr f) (λ f. ⊎_elim (λ q. inl q) (λ n. absurd (clash e n)) (bit-taken d f)) (which (bit_of (rest - 2 ^ a) d))
-
-  -- Where the merged row has a value at the bit taken, what is left decides whether it has one everywhere.
-  pub values-more : (codes : List ℕ) → get_or codes a 0 ≢ 0 → Values (rest - 2 ^ a) codes → Values rest codes
-  values-more codes p v d e = ⊎_elim (λ (q : d ≡ a). rw q (omega (arith, p))) (λ f. v d f) (bit-left d e)
 
 -- ---- matching
 
@@ -80,7 +78,15 @@ module _ (cells : List ℕ) (scheme start : ℕ) (codes : List ℕ) where
   matches-null shared n g =
       not_yes (matches cells scheme start shared codes) (λ h. g (λ a e. ((matches-iff shared).0 h a (bit-lt shared merged_length a n e) e).0))
 
-  -- The way of the code: no bit is left, the next one matches, it does not.
+  -- What was found at each bit of the mask decides whether the row matches.
+  pub matches-found : (shared : ℕ) → shared < 2 ^ merged_length → (r : Bool)
+      → MatchBool r ((a : ℕ) → bit_of shared a ≡ true → Matches a) ((a : ℕ) × (bit_of shared a ≡ true) × (Matches a → ⊥))
+      → r ≡ matches cells scheme start shared codes
+  matches-found shared n true h = sym ((matches-iff shared).1 (λ a l b. h a b))
+  matches-found shared n false h =
+      sym (not_yes (matches cells scheme start shared codes) (λ m. h.2 ((matches-iff shared).0 m h.0 (bit-lt shared merged_length h.0 n h.1) h.1)))
+
+  -- Bit by bit: none is left, the next one matches, it does not.
   pub matches-none : matches cells scheme start 0 codes ≡ true
   matches-none = (matches-iff 0).1 (λ a l b. absurd (clash b (zero_bit a)))
 

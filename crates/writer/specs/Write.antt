@@ -10,8 +10,7 @@ use Rattle.tables.specs.Catalogues.{scheme_of, count_of, first_cell}
 use Rattle.tables.specs.Rows.{below}
 use Rattle.tables.specs.Checks.{first_met, catalogue_fault, Lawful}
 use Rattle.tables.specs.Versions.{version_of, blank}
-use Rattle.writer.specs.declared.Written.{Written}
-use Rattle.writer.specs.declared.Written.TheVariants.{Length, Refused}
+use Rattle.writer.specs.Written.{Written, Length, Refused}
 
 -- Numbers one after the other.
 unfoldable pub encodes : List ℕ → List ℕ

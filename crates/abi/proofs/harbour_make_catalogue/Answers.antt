@@ -4,7 +4,11 @@ use Prim.Native.Nat.{◌≤◌}
 use mathlib.Core.Path.{◌≡◌, sym, ◌∙◌}
 use mathlib.Core.Bool.{false}
 use lib.ListN.{length}
-use Rattle.abi.specs.Words.{catalogue_words, table_words}
+use Rattle.std.proofs.Common.{Ok, Err, ap}
+use Rattle.laws.specs.Lists.{put}
+use Rattle.tables.specs.declared.Catalogue.{Catalogue}
+use Rattle.tables.specs.Checks.{Made, made_of}
+use Rattle.abi.specs.Words.{catalogue_words, table_words, words_of}
 use Rattle.abi.specs.Calls.{make_short}
 use Rattle.abi.proofs.CallLaws.{make-short, make-long, make-done}
 use Rattle.abi.proofs.harbour_make_catalogue.Goals.{Else-make_short}
@@ -35,6 +39,19 @@ bounds-given-1 c = omega (arith, (long (goal.at.bounds-given-1 c).Else-make_shor
 pub put_catalogue-requires : goal.put_catalogue-requires
 put_catalogue-requires c = (long (goal.at.put_catalogue-requires c).Else-make_short).1
 
-pub returns : goal.returns
-returns c =
-    make-done _ _ _ _ _ _ (enough (goal.at.returns c).Else-make_short) c.schemes_in-schemes.ensures c.shorts_in-rows.ensures c.make_catalogue-m.ensures c.put_catalogue.ensures
+pub put_catalogue-requires-in-Err : goal.put_catalogue-requires-in-Err
+put_catalogue-requires-in-Err c = (long (goal.at.put_catalogue-requires-in-Err c).Else-make_short).1
+
+pub returns-in-Ok : goal.returns-in-Ok
+returns-in-Ok c =
+    let made : Made = made_of (Ok c.in-Ok.cat) in
+    make-done _ _ _ _ made _ (enough (goal.at.returns-in-Ok c).Else-make_short) c.schemes_in-schemes.ensures c.shorts_in-rows.ensures
+    (rw c.in-Ok.is at c.make_catalogue.ensures) c.put_catalogue.ensures
+
+pub returns-in-Err : goal.returns-in-Err
+returns-in-Err c =
+    let made : Made = made_of (Err c.in-Err.refusal) in
+    rw c.from.ensures
+    (make-done _ _ _ _ made _ (enough (goal.at.returns-in-Err c).Else-make_short) c.schemes_in-schemes.ensures c.shorts_in-rows.ensures
+    (rw c.in-Err.is at c.make_catalogue.ensures)
+    (c.put_catalogue-in-Err.ensures ∙ ap (λ (x : Catalogue). put (words_of x) c.args.catalogue.now) c.no_tables.ensures))

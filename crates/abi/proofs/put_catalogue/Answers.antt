@@ -1,7 +1,6 @@
 -- `abi::put_catalogue` meets its contract. Invariant: what is left to put from here on makes the whole answer. Assumes nothing.
 use borrow.Author.Rules.{rules}
 use native.Mathlib.Omega.{arith}
-use Prim.Native.Nat.{◌-◌}
 use mathlib.Core.Path.{◌≡◌, refl, sym, ◌∙◌}
 use lib.ListN.{length, length-set, drop_of_length-le}
 use Rattle.laws.proofs.ListLaws.{put-nil, put_next}
@@ -21,16 +20,16 @@ all_words c =
     words-length a.cat s r p t
 
 pub loop-i-init : goal.loop-i-init
-loop-i-init c = (omega arith, refl, refl)
+loop-i-init c = (refl, refl)
 
 pub loop-i-preserved : goal.loop-i-preserved
 loop-i-preserved c =
     let l = c.loop-i in
     let w = all_words (goal.at.loop-i-preserved c).At-loop-i in
-    (omega arith, simp length-set l.invariant.1, l.invariant.2 ∙ put_next l.words (words_of c.args.cat) l.i _ (omega arith) (omega arith) c.word_of.ensures)
+    (simp length-set l.invariant.0, l.invariant.1 ∙ put_next l.words (words_of c.args.cat) l.i _ (omega arith) (omega arith) c.word_of.ensures)
 
 pub returns : goal.returns
 returns c =
     let l = c.loop-i in
     let w = all_words (goal.at.returns c).At-loop-i in
-    sym (l.invariant.2 ∙ rw (drop_of_length-le (words_of c.args.cat) {i = l.i} (omega arith)) (put-nil l.words l.i))
+    sym (l.invariant.1 ∙ rw (drop_of_length-le (words_of c.args.cat) {i = l.i} (omega arith)) (put-nil l.words l.i))

@@ -8,9 +8,5 @@ use Rattle.abi.proofs.put_catalogue.Given as goal
 
 abbrev pub invariant-loop-i : goal.invariant-loop-i
 invariant-loop-i l =
-    (l.i ≤ catalogue_words)
-    × (length l.words ≡ length l.initial.words)
+    (length l.words ≡ length l.initial.words)
     × (put (words_of l.cat) l.initial.words ≡ over l.i (drop l.i (words_of l.cat)) l.words)
-
-abbrev pub decreases-loop-i : goal.decreases-loop-i
-decreases-loop-i l = catalogue_words - l.i

@@ -9,7 +9,4 @@ use Rattle.abi.proofs.shorts_in.Given as goal
 
 abbrev pub invariant-loop-t : goal.invariant-loop-t
 invariant-loop-t l =
-    (l.t ≤ most_tables) × (length l.shorts ≡ most_tables) × (take l.t l.shorts ≡ tab l.t (λ u. short_in l.words (l.from + u)))
-
-abbrev pub decreases-loop-t : goal.decreases-loop-t
-decreases-loop-t l = most_tables - l.t
+    (length l.shorts ≡ most_tables) × (take l.t l.shorts ≡ tab l.t (λ u. short_in l.words (l.from + u)))

@@ -1,43 +1,31 @@
--- `hub::is_maximal` meets its contract. Invariant: each table passed gives the set back. Assumes nothing.
-use borrow.Author.Count.{below_more}
-use borrow.Author.Tests.{not-true, not-false}
-use native.Mathlib.Omega.{arith}
-use mathlib.Core.Path.{sym, ◌∙◌}
-use Rattle.laws.proofs.TestLaws.{clash, not_yes, all-each, all_of}
-use Rattle.tables.proofs.CatalogueLaws.{lawful-all}
+-- `hub::is_maximal` meets its contract: a key that names rows has a maximal set where each of its rows gives the set back. Assumes nothing.
+use borrow.Author.Tests.{tests}
+use native.Mathlib.Nat.{sub-zero}
+use mathlib.Core.Path.{refl, sym, ◌∙◌}
+use Rattle.std.proofs.Common.{rules}
+use Rattle.std.proofs.lemmas.Iterator.{serves_from_Range, YieldsList-from_range}
+use Rattle.std.proofs.lemmas.Iterator.Search.{all_from_yields_List}
+use Rattle.keys.specs.TwoWords.{number_of}
+use Rattle.disjunction.specs.Standing.{gives_back}
+use Rattle.rows.specs.World.{set_of}
 use Rattle.rows.proofs.NamedLaws.{named-iff}
+use Rattle.hub.specs.Searching.{world_in}
 use Rattle.hub.proofs.JudgingLaws.{lost-standing, named-standing}
+use Rattle.hub.proofs.RangeLaws.{all-below}
 use Rattle.hub.proofs.is_maximal.Goals as goal
 
-pub key_named-requires : goal.key_named-requires
-key_named-requires c = lawful-all _ _ c.requires.0
+pub all-requires-clause-callable : goal.all-requires-clause-callable
+all-requires-clause-callable c =
+    let n = (named-iff _ _).0 (sym c.named.ensures ∙ c.if-named.true) in serves_from_Range (λ x q k. search rules) (λ x a b. search rules)
 
-pub returns-then-not-key_named : goal.returns-then-not-key_named
-returns-then-not-key_named c =
-    let p = c.requires in
-    sym (lost-standing _ _ _ p.0 _ (sym c.key_named.ensures ∙ not-true _ c.if-not-key_named.true-raw))
+pub returns-then-named : goal.returns-then-named
+returns-then-named c =
+    let l = c.args.layout.now in
+    let p = gives_back (world_in l) (set_of l.tables.catalogue (number_of c.args.key)) in
+    all_from_yields_List p _ _ _ c.all.ensures.ran (YieldsList-from_range 0 l.tables.catalogue.n l.tables.catalogue.n refl (sub-zero _)) (λ x b q k. search (rules, tests))
+    ∙ all-below p l.tables.catalogue.n
+    ∙ sym (named-standing _ _ _ l.tables.lawful _ (sym c.named.ensures ∙ c.if-named.true))
 
-pub loop-t-init : goal.loop-t-init
-loop-t-init c = (omega arith, λ v l. absurd (omega arith))
-
-pub gives_back-requires : goal.gives_back-requires
-gives_back-requires c =
-    let p = c.requires in
-    (p.0, p.1, (named-iff _ _).0 (sym c.key_named.ensures ∙ not-false _ c.if-not-key_named.false-raw), c.loop-t-test.true)
-
-pub returns-then-not-gives_back : goal.returns-then-not-gives_back
-returns-then-not-gives_back c =
-    let p = c.requires in
-    let y = sym c.key_named.ensures ∙ not-false _ c.if-not-key_named.false-raw in
-    let f = sym c.gives_back.ensures ∙ not-true _ c.if-not-gives_back.true-raw in
-    sym (named-standing _ _ _ p.0 _ y ∙ not_yes _ (λ a. clash (all-each _ _ a _ c.loop-t-test.true) f))
-
-pub loop-t-preserved : goal.loop-t-preserved
-loop-t-preserved c =
-    (omega (arith, c.loop-t-test.true), below_more _ _ c.loop-t.invariant.1 (sym c.gives_back.ensures ∙ not-false _ c.if-not-gives_back.false-raw))
-
-pub returns : goal.returns
-returns c =
-    let p = c.requires in
-    let y = sym c.key_named.ensures ∙ not-false _ c.if-not-key_named.false-raw in
-    sym (named-standing _ _ _ p.0 _ y ∙ all_of _ _ (λ v b. c.loop-t.invariant.1 v (omega (arith, c.loop-t-test.false))))
+pub returns-else-named : goal.returns-else-named
+returns-else-named c =
+    c.if-named.false ∙ sym (lost-standing _ _ _ c.args.layout.now.tables.lawful _ (sym c.named.ensures ∙ c.if-named.false))

@@ -1,71 +1,65 @@
 -- `hub::judge` meets its contract: the empty list, the first spoilt entry, or what the trials reach. Assumes nothing.
-use borrow.Author.Tests.{eqb-true, eqb-false}
 use native.Mathlib.Omega.{arith}
-use Prim.Native.Nat.{ℕ}
-use mathlib.Core.Path.{◌≡◌, sym, ap, subst, ◌∙◌}
+use mathlib.Core.Path.{◌≡◌, sym, ap, ◌∙◌}
 use mathlib.Core.List.{List}
+use Rattle.std.proofs.Common.{None}
+use Prim.Native.Nat.{ℕ}
 use lib.ListN.{length}
+use Rattle.laws.specs.Tests.{without, lowest_below}
 use Rattle.rows.specs.World.{world_of}
-use Rattle.walks.specs.Firsts.{FirstIn}
-use Rattle.hub.specs.Verdicts.{spoilt, verdict}
-use Rattle.hub.specs.Promises.{word_sets, answer_of, listed_keys}
-use Rattle.hub.proofs.TreeLaws.{linked-start}
-use Rattle.hub.proofs.JudgingLaws.{empty-sets, judged-entry, judged-rest, judged-sound, judged-right, judged-missing}
-use Rattle.hub.proofs.judge.Goals.{Else-spoilt-count}
+use Rattle.hub.specs.Verdicts.{seek, spoilt, tried_on, verdict}
+use Rattle.hub.specs.Promises.{word_sets, answer_of}
+use Rattle.hub.specs.Searching.{listed_in, lowest_of}
+use Rattle.hub.proofs.JudgingLaws.{empty-sets, judged-entry, judged-sound, judged-trials}
+use Rattle.hub.proofs.judge.Goals.{After-first_spoilt}
 use Rattle.hub.proofs.judge.Goals as goal
-
-pub laid_out-layout-requires : goal.laid_out-layout-requires
-laid_out-layout-requires c = c.requires
-
-pub judge_none-requires : goal.judge_none-requires
-judge_none-requires c = (c.requires, c.laid_out-layout.ensures)
 
 pub returns-then-count-eq0 : goal.returns-then-count-eq0
 returns-then-count-eq0 c =
-    c.judge_none.ensures
-    ∙ ap (λ (l : List (List ℕ)). answer_of (verdict (world_of c.args.cat c.args.cells.now) l))
-    (sym (empty-sets c.args.cat c.args.cells.now _ c.requires (listed_keys c.args.low.now c.args.high.now) (sym c.list_length-count.ensures ∙ c.if-count-eq0.true)))
+    let t = c.args.tables in
+    rw c.new-layout.ensures at c.judge_none.ensures
+    ∙ ap (λ (l : List (List ℕ)). answer_of (verdict (world_of t.catalogue t.cells.now) l))
+    (sym (empty-sets t.catalogue t.cells.now _ t.lawful (listed_in c.args.keys) (sym c.list_length-count.ensures ∙ c.if-count-eq0.true)))
 
-pub first_spoilt-spoilt-requires : goal.first_spoilt-spoilt-requires
-first_spoilt-spoilt-requires c = (c.requires, c.laid_out-layout.ensures, linked-start _ _ _)
+-- The first pass is over the list that is lent.
+first : (c : After-first_spoilt) → lowest_of c.first_spoilt.result
+    ≡ lowest_below (length (listed_in c.args.keys)) (spoilt (world_of c.args.tables.catalogue c.args.tables.cells.now) (word_sets c.args.tables.catalogue (listed_in c.args.keys)))
+first c = rw (c.new-list.ensures.0, c.new-list.ensures.1, c.new-layout.ensures) at c.first_spoilt.ensures.first
 
-pub returns-then-spoilt-count : goal.returns-then-spoilt-count
-returns-then-spoilt-count c =
-    sym
-    (ap answer_of
-    (judged-entry c.args.cat c.args.cells.now _ c.requires (listed_keys c.args.low.now c.args.high.now) _ c.first_spoilt-spoilt.ensures.first
-    (omega (arith, c.if-spoilt-count.true, c.list_length-count.ensures))))
+pub returns-in-Some : goal.returns-in-Some
+returns-in-Some c =
+    let t = c.args.tables in
+    sym (ap answer_of (judged-entry t.catalogue t.cells.now _ t.lawful (listed_in c.args.keys) c.in-Some.i (rw c.in-Some.is at (first (goal.at.returns-in-Some c).After-first_spoilt))))
 
--- Where no entry is spoilt, their number came back.
-clean : (c : Else-spoilt-count) → c.first_spoilt-spoilt.result ≡ length (listed_keys c.args.low.now c.args.high.now)
-clean c = omega (arith, c.first_spoilt-spoilt.ensures.first.within, c.if-spoilt-count.false, c.list_length-count.ensures)
+-- Where no entry is spoilt, the trials decide.
+clean : (c : After-first_spoilt) → c.first_spoilt.result ≡ None → without
+    ≡ lowest_below (length (listed_in c.args.keys)) (spoilt (world_of c.args.tables.catalogue c.args.tables.cells.now) (word_sets c.args.tables.catalogue (listed_in c.args.keys)))
+clean c e = rw e at (first c)
 
-all-good : (c : Else-spoilt-count)
-    → FirstIn (length (listed_keys c.args.low.now c.args.high.now)) (spoilt (world_of c.args.cat c.args.cells.now) (word_sets c.args.cat (listed_keys c.args.low.now c.args.high.now))) (length (listed_keys c.args.low.now c.args.high.now))
-all-good c =
-    subst (FirstIn (length (listed_keys c.args.low.now c.args.high.now)) (spoilt (world_of c.args.cat c.args.cells.now) (word_sets c.args.cat (listed_keys c.args.low.now c.args.high.now))))
-    (clean c) c.first_spoilt-spoilt.ensures.first
+trials : (c : After-first_spoilt) → c.first_spoilt.result ≡ None → let t = c.args.tables in
+    let sets = word_sets t.catalogue (listed_in c.args.keys) in
+    answer_of (verdict (world_of t.catalogue t.cells.now) sets) ≡ answer_of (seek sets (tried_on (world_of t.catalogue t.cells.now) sets))
+trials c e =
+    let t = c.args.tables in
+    ap answer_of (judged-trials t.catalogue t.cells.now _ t.lawful (listed_in c.args.keys) (omega (arith, c.if-count-eq0.false, c.list_length-count.ensures)) (clean c e))
 
-pub first_missing-out-requires : goal.first_missing-out-requires
-first_missing-out-requires c = (
-  c.requires,
-  c.laid_out-layout.ensures,
-  judged-sound c.args.cat c.args.cells.now _ c.requires (listed_keys c.args.low.now c.args.high.now) (all-good (goal.at.first_missing-out-requires c).Else-spoilt-count),
-  c.first_spoilt-spoilt.ensures.linked (clean (goal.at.first_missing-out-requires c).Else-spoilt-count),
-)
+pub first_missing-requires : goal.first_missing-requires
+first_missing-requires c =
+    let t = c.args.tables in
+    let f = c.first_spoilt.ensures in (
+      f.entered c.in_default.is,
+      rw (f.same.0, f.same.1, c.new-list.ensures.0, c.new-list.ensures.1, c.new-layout.ensures)
+          (judged-sound t.catalogue t.cells.now _ t.lawful (listed_in c.args.keys) (clean (goal.at.first_missing-requires c).After-first_spoilt c.in_default.is)),
+    )
 
-pub returns-then-is_none : goal.returns-then-is_none
-returns-then-is_none c =
-    sym
-    (judged-right c.args.cat c.args.cells.now _ c.requires (listed_keys c.args.low.now c.args.high.now)
-    (judged-sound c.args.cat c.args.cells.now _ c.requires (listed_keys c.args.low.now c.args.high.now) (all-good (goal.at.returns-then-is_none c).Else-spoilt-count)) (omega (arith, c.if-count-eq0.false, c.list_length-count.ensures))
-    (judged-rest c.args.cat c.args.cells.now _ c.requires (listed_keys c.args.low.now c.args.high.now) (all-good (goal.at.returns-then-is_none c).Else-spoilt-count)) (sym c.first_missing-out.ensures ∙ eqb-true _ _ (sym c.is_none.ensures ∙ c.if-is_none.true)))
+pub returns-in-Some-first_missing : goal.returns-in-Some-first_missing
+returns-in-Some-first_missing c =
+    let f = c.first_spoilt.ensures in
+    (rw (f.same.0, f.same.1, c.new-list.ensures.0, c.new-list.ensures.1, c.new-layout.ensures) at c.in-Some-first_missing.ensures)
+    ∙ sym (trials (goal.at.returns-in-Some-first_missing c).After-first_spoilt c.in_default.is)
 
-pub returns : goal.returns
-returns c =
-    c.not_listed.ensures
-    ∙ sym
-    (judged-missing c.args.cat c.args.cells.now _ c.requires (listed_keys c.args.low.now c.args.high.now)
-    (judged-sound c.args.cat c.args.cells.now _ c.requires (listed_keys c.args.low.now c.args.high.now) (all-good (goal.at.returns c).Else-spoilt-count)) (omega (arith, c.if-count-eq0.false, c.list_length-count.ensures))
-    (judged-rest c.args.cat c.args.cells.now _ c.requires (listed_keys c.args.low.now c.args.high.now) (all-good (goal.at.returns c).Else-spoilt-count)) _ c.first_missing-out.ensures
-    (eqb-false _ _ (sym c.is_none.ensures ∙ c.if-is_none.false)))
+pub returns-in-None : goal.returns-in-None
+returns-in-None c =
+    let f = c.first_spoilt.ensures in
+    (rw (f.same.0, f.same.1, c.new-list.ensures.0, c.new-list.ensures.1, c.new-layout.ensures) at c.in-None.ensures)
+    ∙ sym (trials (goal.at.returns-in-None c).After-first_spoilt c.in_default.is)

@@ -3,7 +3,7 @@ use mathlib.Core.Path.{sym, ◌∙◌}
 use Rattle.hub.proofs.JudgingLaws.{reached-own}
 use Rattle.hub.proofs.reached_by.Goals as goal
 
-pub returns-then-row_of-row : goal.returns-then-row_of-row
-returns-then-row_of-row c =
+pub returns-then-row : goal.returns-then-row
+returns-then-row c =
     let p = c.requires in
-    reached-own _ _ _ p.0 _ _ _ p.2 p.4 p.3.table p.3.low (sym c.row_of.ensures ∙ c.if-row_of-row.true)
+    reached-own _ _ _ c.args.layout.now.tables.lawful _ _ _ p.0 p.2 p.1.table p.1.low (sym c.row.ensures ∙ c.if-row.true)

@@ -1,31 +1,32 @@
 -- `importer::read_text` meets its contract: 4, then the header, then the rows. Assumes nothing.
-use native.Mathlib.Omega.{arith}
-use Rattle.importer.proofs.ReadLaws.{head-is, read_low, read-high, read-refused, read-rows}
+use Rattle.std.proofs.Common.{◌≡◌, arith, rules}
+use Rattle.std.specs.Prelude.{Ok, Err}
+use mathlib.Core.Logic.{⊎_elim}
+use Rattle.refusals.specs.Refusals.{number}
+use Rattle.importer.specs.declared.answers.LineFault.{LineFault}
+use Rattle.importer.proofs.ReadLaws.{read_low, read-high, read-refused, read-rows}
 use Rattle.importer.proofs.read_text.Goals as goal
 
 pub returns-then-m-lt1 : goal.returns-then-m-lt1
 returns-then-m-lt1 c =
     let a = c.args in
-    read_low a.m a.text.now a.cells.now c.if-m-lt1.true
+    rw c.whole.ensures (⊎_elim (λ h. read_low a.m a.text.now a.cells.now h) (λ h. read-high a.m a.text.now a.cells.now h.1) c.then-m-lt1.either)
 
-pub returns-then-m-gt63 : goal.returns-then-m-gt63
-returns-then-m-gt63 c =
+pub returns-in_err-header : goal.returns-in_err-header
+returns-in_err-header c =
     let a = c.args in
-    read-high a.m a.text.now a.cells.now c.if-m-gt63.true
+    let (f, p, q) : (f : LineFault) × (c.read_header.result ≡ Err f) × (c.in_err-header.field-0.0 ≡ record { refusal = f.refusal; line = 1; field = f.field }) = search rules in
+    let e : c.from_residual.result ≡ Err c.in_err-header.field-0.0 = search rules in
+    rw (e, q) (read-refused a.m a.text.now a.cells.now (omega arith) (omega arith) (number f.refusal) f.field (rw p at c.read_header.ensures))
 
 pub read_rows-requires : goal.read_rows-requires
 read_rows-requires c =
-    let e = head-is c.in-Rows.is c.read_header.ensures in
-    (e.sizes.0, omega (arith, e.sizes.1, c.if-m-gt63.false), e.sizes.2, e.sizes.3)
+    let e : c.read_header.result ≡ Ok c.in_ok-header.header = search rules in
+    let h = rw e at c.read_header.ensures in
+    (h.sizes.0, omega (arith, h.sizes), h.sizes.2, h.sizes.3)
 
-pub returns-in-BadHead : goal.returns-in-BadHead
-returns-in-BadHead c =
+pub returns : goal.returns
+returns c =
     let a = c.args in
-    let e = head-is c.in-BadHead.is c.read_header.ensures in
-    read-refused a.m a.text.now a.cells.now (omega (arith, c.if-m-lt1.false)) (omega (arith, c.if-m-gt63.false)) _ _ e
-
-pub returns-in-Rows : goal.returns-in-Rows
-returns-in-Rows c =
-    let a = c.args in
-    let e = head-is c.in-Rows.is c.read_header.ensures in
-    read-rows a.m a.text.now a.cells.now (omega (arith, c.if-m-lt1.false)) (omega (arith, c.if-m-gt63.false)) _ _ _ _ _ e c.read_rows.ensures
+    let e : c.read_header.result ≡ Ok c.in_ok-header.header = search rules in
+    read-rows a.m a.text.now a.cells.now (omega arith) (omega arith) _ _ _ _ _ (rw e at c.read_header.ensures) c.read_rows.ensures

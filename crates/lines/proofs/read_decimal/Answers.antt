@@ -1,48 +1,26 @@
--- `lines::read_decimal` meets its contract. Invariant: what the word says is what the bytes from here on say behind the digits so far. The measure is
--- how many bytes are left. Assumes nothing.
-use borrow.Author.Tests.{not-true, not-false}
-use native.Mathlib.Omega.{arith}
-use Prim.Native.Nat.{◌+◌, ◌-◌, ◌*◌, ◌^◌, ◌≤◌, ◌<◌}
-use mathlib.Core.Path.{sym, ◌∙◌}
-use lib.ListN.{get_or}
-use Rattle.lines.proofs.DecimalLaws.{goes-fits, word_none, word_some, word-goes, word-stops, word-ends}
-use Rattle.lines.proofs.read_decimal.Goals.{Else-not-goes_on}
+-- `lines::read_decimal` meets its contract. Invariant: what the word says is what the bytes from here on say behind the digits so far. Assumes nothing.
+use Rattle.std.proofs.Common.{◌≡◌, ◌+◌, ◌-◌, ◌*◌, get_or, arith, rules, sym, ◌∙◌}
+use Rattle.std.specs.Prelude.{None}
+use Rattle.lines.proofs.DecimalLaws.{gone_none, gone_some, word-goes, word-stops, word-ends}
 use Rattle.lines.proofs.read_decimal.Goals as goal
 
-pub returns-then-word-eq0 : goal.returns-then-word-eq0
-returns-then-word-eq0 c = sym (word_none c.args.word.now c.if-word-eq0.true)
+pub returns-in_err-v : goal.returns-in_err-v
+returns-in_err-v c =
+    let l = c.loop-b in
+    let w = c.args.word.now in
+    let b = get_or w l.b-index 0 in
+    let e : c.from_residual.result ≡ None = search rules in
+    rw e (sym (l.invariant ∙ word-stops w l.v l.b-index c.loop-b-test.true (gone_none l.v b (l.v * 10 + (b - 48)) c.go_on.result c.go_on.ensures c.in_err-v.was)))
 
-pub loop-i-init : goal.loop-i-init
-loop-i-init c = (word_some c.args.word.now (omega (arith, c.if-word-eq0.false)), omega arith, omega arith)
-
-pub returns-then-not-goes_on : goal.returns-then-not-goes_on
-returns-then-not-goes_on c =
-    let l = c.loop-i in
-    sym (l.invariant.0 ∙ word-stops _ l.v l.i c.loop-i-test.true (sym c.goes_on.ensures ∙ not-true _ c.if-not-goes_on.true-raw))
-
--- The byte is a digit, and there is room for it.
-fits : (c : Else-not-goes_on)
-    → (48 ≤ get_or c.args.word.now c.loop-i.i 0)
-    × (get_or c.args.word.now c.loop-i.i 0 ≤ 57)
-    × (c.loop-i.v * 10 + (get_or c.args.word.now c.loop-i.i 0 - 48) < 2 ^ 64)
-fits c = goes-fits _ _ (sym c.goes_on.ensures ∙ not-false _ c.if-not-goes_on.false-raw)
-
-pub overflow_mul-v : goal.overflow_mul-v
-overflow_mul-v c = omega (arith, (fits c).2)
-
-pub overflow_sub-v : goal.overflow_sub-v
-overflow_sub-v c = (fits c).0
-
-pub overflow_cast-v : goal.overflow_cast-v
-overflow_cast-v c = omega (arith, (fits c).1)
-
-pub overflow_add-v : goal.overflow_add-v
-overflow_add-v c = omega (arith, (fits c).2)
-
-pub loop-i-preserved : goal.loop-i-preserved
-loop-i-preserved c =
-    let l = c.loop-i in
-    (l.invariant.0 ∙ word-goes _ l.v l.i c.loop-i-test.true (sym c.goes_on.ensures ∙ not-false _ c.if-not-goes_on.false-raw), (fits c).2, omega (arith, c.loop-i-test.true))
+pub loop-b-preserved : goal.loop-b-preserved
+loop-b-preserved c =
+    let l = c.loop-b in
+    let w = c.args.word.now in
+    let b = get_or w l.b-index 0 in
+    let (e, p) = gone_some l.v b (l.v * 10 + (b - 48)) c.in_ok-v.v c.go_on.result c.go_on.ensures c.in_ok-v.was in
+    rw p (l.invariant ∙ word-goes w l.v l.b-index c.loop-b-test.true e)
 
 pub returns : goal.returns
-returns c = sym (c.loop-i.invariant.0 ∙ word-ends _ c.loop-i.v c.loop-i.i (omega (arith, c.loop-i-test.false)))
+returns c =
+    let l = c.loop-b in
+    sym (l.invariant ∙ word-ends c.args.word.now l.v l.b-index (omega (arith, c.loop-b-test.false)))

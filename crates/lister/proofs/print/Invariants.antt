@@ -4,18 +4,13 @@ use Prim.Native.Nat.{ℕ}
 use mathlib.Core.Path.{◌≡◌}
 use mathlib.Core.List.{List}
 use lib.ListN.{length}
-use Rattle.lister.specs.Listing.{text_from, Printing}
+use Rattle.lister.specs.Listing.{text_from, lines_at, calls_in, Printing}
 use Rattle.lister.proofs.print.Given as goal
 
-abbrev pub invariant-loop-p : goal.invariant-loop-p
-invariant-loop-p l =
-    ((w : List ℕ) × Printing (text_from l.initial.p l.cells l.initial.low l.initial.high l.initial.left l.initial.right l.initial.padded l.initial.out) w l.p l.cells l.low l.high l.left l.right l.padded l.out)
-    × (length l.low ≡ length l.initial.low)
-    × (length l.high ≡ length l.initial.high)
-    × (length l.left ≡ length l.initial.left)
-    × (length l.right ≡ length l.initial.right)
-    × (length l.padded ≡ 63)
-    × (length l.out ≡ 32768)
+abbrev pub invariant-loop-more : goal.invariant-loop-more
+invariant-loop-more l =
+    ((w : List ℕ) × Printing (text_from (lines_at l.initial.to l.initial.more) l.initial.store l.initial.padded l.initial.to.out.now) w (lines_at l.to l.more) l.store l.padded l.to.out.now)
+    × (length l.to.out.now ≡ 32768)
 
-abbrev pub decreases-loop-p : goal.decreases-loop-p
-decreases-loop-p l = l.p.calls
+abbrev pub decreases-loop-more : goal.decreases-loop-more
+decreases-loop-more l = calls_in l.more

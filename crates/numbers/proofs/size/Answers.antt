@@ -15,8 +15,8 @@ from-top x p h =
     let e : 63 - count_leading_zeros 64 x ≡ t.0 = omega (arith, t.1) in
     (omega (arith, t.1), ap (λ (j : ℕ). j / 7 + 1) e ∙ sym (encode-length x t.0 h t.2 t.3))
 
-pub returns-then-x-lt128 : goal.returns-then-x-lt128
-returns-then-x-lt128 c = sym (ap length (encode-last c.args.x (omega arith)))
+pub returns-then-x-lt-GROUP : goal.returns-then-x-lt-GROUP
+returns-then-x-lt-GROUP c = sym (ap length (encode-last c.args.x (omega arith)))
 
 pub overflow_sub-highest : goal.overflow_sub-highest
 overflow_sub-highest c = (from-top c.args.x (omega arith) (omega arith)).0

@@ -1,35 +1,41 @@
 -- `padding::code_at` meets its contract. Invariant: no table passed gives a code. Assumes nothing.
-use native.Mathlib.Omega.{arith}
-use Prim.Native.Nat.{◌<◌}
-use mathlib.Core.Path.{sym, ◌∙◌}
-use borrow.Author.Count.{below_more}
+use Rattle.std.proofs.Common.{◌<◌, ◌≡◌, true, sym, ◌∙◌, arith}
 use Rattle.keys.specs.TwoWords.{number_of}
+use Rattle.padding.specs.Padding.{gives_in}
 use Rattle.padding.proofs.PaddingLaws.{gives_row, code-first, code-null}
+use Rattle.padding.proofs.code_at.Goals.{Then-table_gives}
 use Rattle.padding.proofs.code_at.Goals as goal
 
-pub loop-t-init : goal.loop-t-init
-loop-t-init c = (omega arith, λ u l. absurd (omega arith))
+-- The table that was found gives a code.
+gives : (c : Then-table_gives) → gives_in c.args.tables.now.catalogue (number_of c.args.key) c.args.a c.loop-t.t ≡ true
+gives c = sym c.table_gives.ensures ∙ c.if-table_gives.true
 
-pub code_of-requires : goal.code_of-requires
-code_of-requires c =
-    let b : c.loop-t.t < c.args.cat.n = omega arith in
-    let y = sym c.table_gives.ensures ∙ c.if-table_gives.true in
-    let g = (gives_row c.args.cat (number_of c.args.key) c.args.a c.loop-t.t b).0 y in
-    let e = c.row_of-r.ensures in
-    (c.requires.0, b, rw e g.0, rw e (c.requires.1.rows c.loop-t.t b), omega (arith, c.requires.0.attributes), g.1)
+pub code_of-requires-clause-row : goal.code_of-requires-clause-row
+code_of-requires-clause-row c =
+    let cat = c.args.tables.now.catalogue in
+    let b : c.loop-t.t < cat.n = omega arith in
+    let y = gives (goal.at.code_of-requires-clause-row c).Then-table_gives in
+    let e = c.row.ensures in
+    record {
+      table = b;
+      low = rw e ((gives_row cat (number_of c.args.key) c.args.a c.loop-t.t b).0 y).0;
+      high = rw e (c.requires.0.rows c.loop-t.t b);
+    }
+
+pub code_of-requires-clause-attribute : goal.code_of-requires-clause-attribute
+code_of-requires-clause-attribute c =
+    let t = c.args.tables.now in
+    let y = gives (goal.at.code_of-requires-clause-attribute c).Then-table_gives in
+    (omega (arith, t.lawful.attributes), ((gives_row t.catalogue (number_of c.args.key) c.args.a c.loop-t.t (omega arith)).0 y).1)
 
 pub returns-then-table_gives : goal.returns-then-table_gives
 returns-then-table_gives c =
-    let y = sym c.table_gives.ensures ∙ c.if-table_gives.true in
-    rw (c.code_of.ensures, c.row_of-r.ensures)
-    (sym (code-first c.args.cat (number_of c.args.key) c.args.cells.now c.args.a c.loop-t.t (omega arith) y c.loop-t.invariant.1))
-
-pub loop-t-preserved : goal.loop-t-preserved
-loop-t-preserved c =
-    (omega arith, below_more _ _ c.loop-t.invariant.1 (sym c.table_gives.ensures ∙ c.if-table_gives.false))
+    let t = c.args.tables.now in
+    let y = gives (goal.at.returns-then-table_gives c).Then-table_gives in
+    rw (c.code_of.ensures, c.row.ensures)
+    (sym (code-first t.catalogue (number_of c.args.key) t.cells.now c.args.a c.loop-t.t (omega arith) y c.loop-t.invariant))
 
 pub returns : goal.returns
 returns c =
-    sym
-    (code-null c.args.cat (number_of c.args.key) c.args.cells.now c.args.a
-    (λ u b. c.loop-t.invariant.1 u (omega (arith, c.loop-t-test.false))))
+    let t = c.args.tables.now in
+    sym (code-null t.catalogue (number_of c.args.key) t.cells.now c.args.a (λ u b. c.loop-t.invariant u (omega arith)))

@@ -1,28 +1,18 @@
--- `padding::covers` meets its contract. Invariant: every value passed is kept. Assumes nothing.
-use native.Mathlib.Omega.{arith}
-use mathlib.Core.Path.{sym, ◌∙◌}
-use borrow.Author.Count.{below_more}
-use borrow.Author.Tests.{not-true, not-false}
-use Rattle.padding.proofs.CoveringLaws.{covering-length, covering-bad, covering-good}
+-- `padding::covers` meets its contract: what `all` says of the pairs of codes. Assumes nothing.
+use Rattle.std.proofs.Common.{◌∙◌, sym, rules, tests, ne_eqb}
+use Rattle.std.proofs.lemmas.Iterator.{YieldsList-from_slice, YieldsList-from_zip}
+use Rattle.std.proofs.lemmas.Iterator.Search.{all_from_yields_List}
+use Rattle.padding.specs.Covering.{keeps}
+use Rattle.padding.proofs.CoveringLaws.{covering-length, covering-pairs}
 use Rattle.padding.proofs.covers.Goals as goal
 
 pub returns-then-first-second : goal.returns-then-first-second
-returns-then-first-second c = sym (covering-length _ _ c.if-first-second.true)
+returns-then-first-second c =
+    let first = c.args.first.now in
+    let second = c.args.second.now in
+    all_from_yields_List (λ p. keeps p.0 p.1) c.all.new.self _ c.all.result c.all.ensures.ran
+    (YieldsList-from_zip (YieldsList-from_slice first cc) (YieldsList-from_slice second cc)) (λ x b q k. search (rules, tests))
+    ∙ covering-pairs first second c.if-first-second.true
 
-pub loop-a-init : goal.loop-a-init
-loop-a-init c = (omega arith, omega arith, λ u l. absurd (omega arith))
-
-pub returns-then-not-code_kept : goal.returns-then-not-code_kept
-returns-then-not-code_kept c =
-    let at-loop = c in
-    sym (covering-bad _ _ at-loop.loop-a.a (sym c.code_kept.ensures ∙ not-true _ c.if-not-code_kept.true-raw))
-
-pub loop-a-preserved : goal.loop-a-preserved
-loop-a-preserved c =
-    let at-loop = c in
-    (omega arith, at-loop.loop-a.invariant.1, below_more _ _ at-loop.loop-a.invariant.2 (sym c.code_kept.ensures ∙ not-false _ c.if-not-code_kept.false-raw))
-
-pub returns : goal.returns
-returns c =
-    let at-loop = c.loop-a in
-    sym (covering-good _ _ at-loop.invariant.1 (λ u b. at-loop.invariant.2 u (omega (arith, c.loop-a-test.false))))
+pub returns-else-first-second : goal.returns-else-first-second
+returns-else-first-second c = ne_eqb _ _ c.if-first-second.false ∙ sym (covering-length _ _ c.if-first-second.false)

@@ -1,5 +1,5 @@
 -- `sets::measured` meets its contract. Invariant: the sum is the rows of the tables below t, and each of these has its own (`Entered`). Assumes nothing.
-use Prim.Native.Nat.{ℕ, ◌-◌, ◌≤◌}
+use Prim.Native.Nat.{ℕ}
 use mathlib.Core.Path.{◌≡◌}
 use lib.Count.{ones}
 use Rattle.tables.specs.declared.Catalogue.{Catalogue}
@@ -12,7 +12,8 @@ width cat t = ones (scheme_of cat t)
 
 abbrev pub invariant-loop-t : goal.invariant-loop-t
 invariant-loop-t l =
-    (l.t ≤ l.n) × (l.total ≡ rows_before l.cat l.t) × Entered (rows_before l.cat) l.before l.t × Entered (width l.cat) l.widths l.t
-
-abbrev pub decreases-loop-t : goal.decreases-loop-t
-decreases-loop-t l = l.n - l.t
+    record {
+      sum : l.total ≡ rows_before l.tables.catalogue l.t;
+      before : Entered (rows_before l.tables.catalogue) l.before l.t;
+      widths : Entered (width l.tables.catalogue) l.widths l.t;
+    }

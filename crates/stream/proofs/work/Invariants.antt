@@ -1,21 +1,21 @@
 -- `stream::work` meets its contract. Invariant: the whole call is the counts so far, and what is left of it from here; the stream fits. Assumes nothing.
-use Prim.Native.Nat.{◌-◌}
-use mathlib.Core.Path.{◌≡◌}
-use lib.ListN.{length}
-use Rattle.tables.specs.Catalogues.{total}
-use Rattle.machine.specs.Machine.{state_for, Fit, work}
-use Rattle.machine.specs.Machine.{piled}
+use Rattle.std.proofs.Common.{◌-◌, ◌≡◌, ◌≤◌}
+use Rattle.store.specs.Lent.{SameSlices}
+use Rattle.machine.specs.Machine.{Fit, work, piled}
 use Rattle.stream.specs.Promises.{asked_of}
+use Rattle.stream.specs.Parts.{stream_in}
 use Rattle.stream.proofs.work.Given as goal
 
 abbrev pub invariant-loop-next_row : goal.invariant-loop-next_row
 invariant-loop-next_row l =
-    Fit l.cat (state_for (asked_of l.scope) l.low l.high l.left l.right l.found l.taken l.next_row)
-    × (work l.cat l.cells l.budget (state_for (asked_of l.scope) l.initial.low l.initial.high l.initial.left l.initial.right l.initial.found l.taken l.initial.next_row) l.padded ≡ piled l.trials l.tests l.looks (work l.cat l.cells l.spare (state_for (asked_of l.scope) l.low l.high l.left l.right l.found l.taken l.next_row) l.padded))
-    × (length l.low ≡ length l.initial.low)
-    × (length l.high ≡ length l.initial.high)
-    × (length l.left ≡ length l.initial.left)
-    × (length l.right ≡ length l.initial.right)
-
-abbrev pub decreases-loop-next_row : goal.decreases-loop-next_row
-decreases-loop-next_row l = l.total - l.next_row
+    let cat = l.layout.tables.catalogue in
+    let cells = l.layout.tables.cells.now in
+    let asked = asked_of l.scope in
+    record {
+      place : l.stream.next_row ≡ l.next_row;
+      fit : Fit cat (stream_in asked l.stream l.store);
+      spent : l.counts.trials ≤ l.budget;
+      whole : work cat cells l.budget (stream_in asked l.initial.stream l.initial.store) l.padded
+          ≡ piled l.counts.trials l.counts.tests l.counts.looks (work cat cells (l.budget - l.counts.trials) (stream_in asked l.stream l.store) l.padded);
+      same : SameSlices l.initial.store l.store;
+    }

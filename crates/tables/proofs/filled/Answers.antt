@@ -1,12 +1,11 @@
 -- `tables::filled` meets its contract. Invariant: the sum is the cells of the tables below t, and these are entered in both lists. Assumes nothing.
 use native.Mathlib.Omega.{arith}
-use Prim.Native.Nat.{ℕ, ◌+◌, ◌-◌, ◌*◌, ◌≤◌, ◌<◌}
+use Prim.Native.Nat.{ℕ, ◌<◌}
 use mathlib.Core.Path.{◌≡◌, refl, ap₂}
 use mathlib.Core.List.{List}
-use lib.Count.{ones}
 use Rattle.tables.specs.declared.Catalogue.{Catalogue}
-use Rattle.tables.specs.Sizes.{most_tables, most_cells}
-use Rattle.tables.specs.Catalogues.{scheme_of, count_of, first_cell, touching_of}
+use Rattle.tables.specs.Sizes.{most_tables}
+use Rattle.tables.specs.Catalogues.{first_cell, touching_of}
 use Rattle.tables.proofs.CatalogueLaws.{cells-next, cells-mono, table-ends}
 use Rattle.tables.proofs.StoredLaws.{entered-none, entered-next, entered_all}
 use Rattle.tables.proofs.filled.Goals.{In-loop-t}
@@ -18,33 +17,24 @@ few c = omega (arith, c.loop-t-test.true, c.requires.0)
 
 pub loop-t-init : goal.loop-t-init
 unfolding first_cell
-loop-t-init c = (omega arith, refl, entered-none _, entered-none _)
+loop-t-init c = (refl, entered-none _, entered-none _)
 
 pub overflow_cast-places : goal.overflow_cast-places
 overflow_cast-places c =
     let l = c.loop-t in
-    omega (arith, l.invariant.1, cells-mono c.args.cat l.t c.args.cat.n (omega (arith, c.loop-t-test.true)), c.requires.1)
-
--- The sum with table t's cells.
-ends : (c : In-loop-t)
-    → c.loop-t.at + count_of c.args.cat c.loop-t.t * ones (scheme_of c.args.cat c.loop-t.t) ≤ most_cells
-ends c =
-    omega (arith, c.loop-t.invariant.1, table-ends c.args.cat c.loop-t.t c.loop-t-test.true, c.requires.1)
-
-pub overflow_mul-at : goal.overflow_mul-at
-overflow_mul-at c = rw c.width.ensures (omega (arith, ends (goal.at.overflow_mul-at c).In-loop-t))
+    omega (arith, l.invariant.0, cells-mono c.args.cat l.t c.args.cat.n (omega (arith, c.loop-t-test.true)), c.requires.1)
 
 pub overflow_add-at : goal.overflow_add-at
-overflow_add-at c = rw c.width.ensures (omega (arith, ends (goal.at.overflow_add-at c).In-loop-t))
+overflow_add-at c =
+    rw c.width.ensures (omega (arith, c.loop-t.invariant.0, table-ends c.args.cat c.loop-t.t c.loop-t-test.true, c.requires.1))
 
 pub loop-t-preserved : goal.loop-t-preserved
 loop-t-preserved c =
     let v = c.loop-t.invariant in
     let h = few (goal.at.loop-t-preserved c).In-loop-t in (
-      omega (arith, c.loop-t-test.true),
-      rw (c.width.ensures, cells-next c.args.cat c.loop-t.t, ← v.1),
-      entered-next (first_cell c.args.cat) c.loop-t.places c.loop-t.t c.loop-t.at h v.1 v.2,
-      entered-next (touching_of c.args.cat) c.loop-t.touching c.loop-t.t _ h c.touching_of.ensures v.3,
+      rw (c.width.ensures, cells-next c.args.cat c.loop-t.t, ← v.0),
+      entered-next (first_cell c.args.cat) c.loop-t.places c.loop-t.t c.loop-t.at h v.0 v.1,
+      entered-next (touching_of c.args.cat) c.loop-t.touching c.loop-t.t _ h c.touching_of.ensures v.2,
     )
 
 -- The catalogue with these two lists.
@@ -54,7 +44,7 @@ storing cat places touching =
 
 pub returns : goal.returns
 returns c =
-    let e : c.loop-t.t ≡ c.args.cat.n = omega (arith, c.loop-t-test.false, c.loop-t.invariant.0) in
+    let e : c.loop-t.t ≡ c.args.cat.n = omega arith in
     ap₂ (storing c.args.cat)
+    (entered_all _ _ _ c.requires.0 (rw e at c.loop-t.invariant.1))
     (entered_all _ _ _ c.requires.0 (rw e at c.loop-t.invariant.2))
-    (entered_all _ _ _ c.requires.0 (rw e at c.loop-t.invariant.3))

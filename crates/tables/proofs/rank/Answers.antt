@@ -1,5 +1,4 @@
 -- `tables::rank` meets its contract: the mask of the attributes below a, and its ones. Assumes nothing.
-use Prim.Native.Nat.{◌-◌}
 use lib.Pow.{pow_pos}
 use Rattle.tables.proofs.CatalogueLaws.{one_shl, rank-none}
 use Rattle.tables.proofs.rank.Goals as goal

@@ -1,6 +1,5 @@
 -- `tables::width` meets its contract: a word of 64 bits has at most 64 ones. Assumes nothing.
 use native.Mathlib.Omega.{arith}
-use Prim.Native.Nat.{◌-◌}
 use lib.Count.{ones-le}
 use Rattle.tables.proofs.width.Goals as goal
 

@@ -1,32 +1,26 @@
 -- `text::code_on` meets its contract: one law for each way it goes. Assumes nothing.
-use native.Mathlib.Omega.{arith}
-use mathlib.Core.Path.{sym}
-use Rattle.text.proofs.LineLaws.{code_below_lem, code-above, code-start, code-behind-zero, code-over, code-longer}
+use Rattle.std.proofs.Common.{arith, sym}
+use mathlib.Core.Logic.{⊎_elim}
+use Rattle.text.proofs.LineLaws.{code_below_lem, code-above, code-start, code-behind-zero, code-digit}
 use Rattle.text.proofs.code_on.Goals as goal
 
-pub returns-then-b-lt48 : goal.returns-then-b-lt48
-returns-then-b-lt48 c = let a = c.args in (sym (code_below_lem a.c a.b (omega arith)), omega arith)
+pub returns-then-not-is_ascii_digit : goal.returns-then-not-is_ascii_digit
+returns-then-not-is_ascii_digit c =
+    (⊎_elim (λ h. sym (code_below_lem c.args.c c.args.b h)) (λ h. sym (code-above c.args.c c.args.b h)) c.if-not-is_ascii_digit.ensures.cases, omega arith)
 
-pub returns-then-b-gt57 : goal.returns-then-b-gt57
-returns-then-b-gt57 c = let a = c.args in (sym (code-above a.c a.b (omega arith)), omega arith)
+pub returns-in-0 : goal.returns-in-0
+returns-in-0 c =
+    let h = c.if-not-is_ascii_digit.ensures.cases in
+    let e = code-start c.args.c c.args.b (omega arith) (omega arith) c.in-0.is in
+    (omega (arith, e, c.from-digit.ensures), omega (arith, h, c.from-digit.ensures))
 
-pub returns-then-c-eq0 : goal.returns-then-c-eq0
-returns-then-c-eq0 c = let a = c.args in (sym (code-start a.c a.b (omega arith) (omega arith) (omega arith)), omega arith)
+pub returns-in-1 : goal.returns-in-1
+returns-in-1 c =
+    let h = c.if-not-is_ascii_digit.ensures.cases in
+    (sym (code-behind-zero c.args.c c.args.b (omega arith) (omega arith) c.in-1.is), omega arith)
 
-pub returns-then-c-eq1 : goal.returns-then-c-eq1
-returns-then-c-eq1 c = let a = c.args in (sym (code-behind-zero a.c a.b (omega arith) (omega arith) (omega arith)), omega arith)
-
-pub returns-then-c-gt922337203685477580 : goal.returns-then-c-gt922337203685477580
-returns-then-c-gt922337203685477580 c =
-    let a = c.args in
-    (sym (code-over a.c a.b (omega arith) (omega arith) (omega arith) (omega arith)), omega arith)
-
-pub returns-then-longer-gt9223372036854775808 : goal.returns-then-longer-gt9223372036854775808
-returns-then-longer-gt9223372036854775808 c =
-    let a = c.args in
-    (sym (code-over a.c a.b (omega arith) (omega arith) (omega arith) (omega arith)), omega arith)
-
-pub returns : goal.returns
-returns c =
-    let a = c.args in
-    (sym (code-longer a.c a.b (omega arith) (omega arith) (omega arith) (omega arith)), omega arith)
+pub returns-in_default : goal.returns-in_default
+returns-in_default c =
+    let h = c.if-not-is_ascii_digit.ensures.cases in
+    let e = code-digit c.args.c c.args.b (omega arith) (omega arith) (omega arith) in
+    (omega (arith, e, c.from-digit.ensures, c.saturating_mul.ensures, c.saturating_add.ensures, c.min.ensures), omega (arith, c.min.ensures))

@@ -13,6 +13,8 @@ use Rattle.text.specs.declared.Act.TheVariants.{Takes, Marks, NextField, NextLin
 use Rattle.text.specs.Fields.{field_end, field_on, field_from, field_at}
 use Rattle.text.proofs.Fieldwise.{field-on, field-ends}
 use Rattle.text.proofs.field_at.Invariants.{On}
+use Rattle.text.specs.declared.Form.TheVariants.{AtStart, InPlain, AfterQuote}
+use mathlib.Core.Logic.{◌⊎◌, inl, inr, ⊎_elim}
 use Rattle.text.proofs.field_at.Goals as goal
 use Rattle.text.proofs.field_at.Goals.{in-Takes, in-Marks}
 
@@ -36,55 +38,64 @@ module _ (s : List ℕ) (at : ℕ) (f : Form) (c i : ℕ) (on : On s at f c i) w
 pub returns-in-NextField : goal.returns-in-NextField
 returns-in-NextField c =
     let l = c.loop-i in
-    ends c.args.text.now c.args.at l.form l.code l.i l.invariant NextField c.loop-i-test.true
-    (does l.form _ c.kind_of.ensures c.act_of.ensures c.in-NextField.is)
+    ends c.args.text.now c.args.at l.form l.code l.i l.invariant.0 NextField c.loop-i-test.true
+    (does l.form _ c.from.ensures c.act.ensures c.in-NextField.is)
 
 pub returns-in-NextLine : goal.returns-in-NextLine
 returns-in-NextLine c =
     let l = c.loop-i in
-    ends c.args.text.now c.args.at l.form l.code l.i l.invariant NextLine c.loop-i-test.true
-    (does l.form _ c.kind_of.ensures c.act_of.ensures c.in-NextLine.is)
+    ends c.args.text.now c.args.at l.form l.code l.i l.invariant.0 NextLine c.loop-i-test.true
+    (does l.form _ c.from.ensures c.act.ensures c.in-NextLine.is)
 
 pub returns-in-Breaks : goal.returns-in-Breaks
 returns-in-Breaks c =
     let l = c.loop-i in
-    ends c.args.text.now c.args.at l.form l.code l.i l.invariant Breaks c.loop-i-test.true
-    (does l.form _ c.kind_of.ensures c.act_of.ensures c.in-Breaks.is)
+    ends c.args.text.now c.args.at l.form l.code l.i l.invariant.0 Breaks c.loop-i-test.true
+    (does l.form _ c.from.ensures c.act.ensures c.in-Breaks.is)
 
 pub loop-i-preserved : goal.loop-i-preserved
 loop-i-preserved c =
     let l = c.loop-i in
-    let a = c.args in
-    elim c.match-act_of.branch [
-      | in-Takes w ↦
-          taken a.text.now a.at l.form l.code l.i l.invariant _ _ _ _ c.loop-i-test.true
-          (does l.form _ c.kind_of.ensures c.act_of.ensures w.in-Takes.is) w.form-is w.code-is w.code_on-code.ensures
-      | in-Marks w ↦
-          marked a.text.now a.at l.form l.code l.i l.invariant _ _ _ c.loop-i-test.true
-          (does l.form _ c.kind_of.ensures c.act_of.ensures w.in-Marks.is) w.form-is w.code-is
-    ]
+    let a = c.args in (
+      elim c.match-act.branch [
+        | in-Takes w ↦
+            taken a.text.now a.at l.form l.code l.i l.invariant.0 _ _ _ _ c.loop-i-test.true
+            (does l.form _ c.from.ensures c.act.ensures w.in-Takes.is) w.form-is w.code-is w.code_on-code.ensures
+        | in-Marks w ↦
+            marked a.text.now a.at l.form l.code l.i l.invariant.0 _ _ _ c.loop-i-test.true
+            (does l.form _ c.from.ensures c.act.ensures w.in-Marks.is) w.form-is w.code-is
+      ],
+      inl (omega arith),
+    )
 
 pub returns-in-AtStart : goal.returns-in-AtStart
 returns-in-AtStart c =
     let l = c.loop-i in
-    over c.args.text.now c.args.at l.form l.code l.i l.invariant (omega (arith, c.loop-i-test.false)) c.in-AtStart.is
+    over c.args.text.now c.args.at l.form l.code l.i l.invariant.0 c.loop-i-test.false c.in-AtStart.is
+
+-- A field that has begun goes to the text's end.
+end-is : (n i : ℕ) {f g : Form} → n ≤ i → (i ≤ n) ⊎ (f ≡ AtStart) → f ≡ g → (g ≡ AtStart → ⊥) → n ≡ i
+end-is n i h (inl k) e d = omega arith
+end-is n i h (inr k) e d = absurd (d (sym e ∙ k))
+
+plain-begun : InPlain ≡ AtStart → ⊥
+plain-begun z = cc
+
+quoted-begun : AfterQuote ≡ AtStart → ⊥
+quoted-begun z = cc
 
 pub returns-in-InPlain : goal.returns-in-InPlain
 returns-in-InPlain c =
     let l = c.loop-i in
-    over c.args.text.now c.args.at l.form l.code l.i l.invariant (omega (arith, c.loop-i-test.false)) c.in-InPlain.is
-
-pub returns-in-AfterQuote : goal.returns-in-AfterQuote
-returns-in-AfterQuote c =
-    let l = c.loop-i in
-    over c.args.text.now c.args.at l.form l.code l.i l.invariant (omega (arith, c.loop-i-test.false)) c.in-AfterQuote.is
+    let s = c.args.text.now in
+    ⊎_elim
+    (λ e. rw (end-is (length s) l.i c.loop-i-test.false l.invariant.1 e plain-begun) (over s c.args.at l.form l.code l.i l.invariant.0 c.loop-i-test.false e))
+    (λ e. rw (end-is (length s) l.i c.loop-i-test.false l.invariant.1 e quoted-begun) (over s c.args.at l.form l.code l.i l.invariant.0 c.loop-i-test.false e))
+    c.in-InPlain.is
 
 pub returns-in-InQuotes : goal.returns-in-InQuotes
 returns-in-InQuotes c =
     let l = c.loop-i in
-    over c.args.text.now c.args.at l.form l.code l.i l.invariant (omega (arith, c.loop-i-test.false)) c.in-InQuotes.is
-
-pub returns-in-AfterCr : goal.returns-in-AfterCr
-returns-in-AfterCr c =
-    let l = c.loop-i in
-    over c.args.text.now c.args.at l.form l.code l.i l.invariant (omega (arith, c.loop-i-test.false)) c.in-AfterCr.is
+    ⊎_elim (λ e. over c.args.text.now c.args.at l.form l.code l.i l.invariant.0 c.loop-i-test.false e)
+    (λ e. over c.args.text.now c.args.at l.form l.code l.i l.invariant.0 c.loop-i-test.false e)
+    c.in-InQuotes.is

@@ -1,18 +1,20 @@
 -- `walks::join_code` meets its contract, way by way. Assumes nothing.
-use borrow.Author.Tests.{not-true, not-false, eq-eqb, ne_eqb}
+use mathlib.Core.Path.{◌≡◌, sym}
+use mathlib.Core.Logic.{◌⊎◌, inl, inr}
+use mathlib.Core.Bool.{Bool, true, false}
+use Prim.Native.Nat.{ℕ}
+use borrow.Author.Tests.{eq-eqb, ne_eqb}
 use Rattle.walks.specs.Merged.{joint}
 use Rattle.walks.proofs.join_code.Goals as goal
 
-pub returns-then-not-seen : goal.returns-then-not-seen
+taken : (seen : Bool) (old code : ℕ) → (seen ≡ false) ⊎ (seen ≡ true × old ≡ code) → code ≡ joint seen old code
 unfolding joint
-returns-then-not-seen c = rw (not-true c.args.seen c.if-not-seen.true-raw)
+taken seen old code (inl e) = rw e
+taken seen old code (inr (e, q)) = rw (e, eq-eqb old code q) (sym q)
 
 pub returns-then-old-code : goal.returns-then-old-code
-unfolding joint
-returns-then-old-code c =
-    rw (not-false c.args.seen c.if-not-seen.false-raw, eq-eqb c.args.old c.args.code c.if-old-code.true)
+returns-then-old-code c = taken _ _ _ c.if-old-code.either
 
-pub returns : goal.returns
+pub returns-else-old-code : goal.returns-else-old-code
 unfolding joint
-returns c =
-    rw (not-false c.args.seen c.if-not-seen.false-raw, ne_eqb c.args.old c.args.code c.if-old-code.false)
+returns-else-old-code c = rw (c.if-old-code.false.0, ne_eqb c.args.old c.args.code c.if-old-code.false.1)

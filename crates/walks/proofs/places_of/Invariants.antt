@@ -1,9 +1,6 @@
--- `walks::places_of` meets its contract. Invariant: the places are worked out but for the bits that are left (`Placing`). The mask falls. Assumes nothing.
+-- `walks::places_of` meets its contract. Invariant: the places are worked out but for the bits that are left (`Placing`). Assumes nothing.
 use Rattle.walks.proofs.PlaceLaws.{Placing}
 use Rattle.walks.proofs.places_of.Given as goal
 
-abbrev pub invariant-loop-rest : goal.invariant-loop-rest
-invariant-loop-rest l = Placing l.scheme l.shared l.places l.rest
-
-abbrev pub decreases-loop-rest : goal.decreases-loop-rest
-decreases-loop-rest l = l.rest
+abbrev pub invariant-loop-a : goal.invariant-loop-a
+invariant-loop-a l = Placing l.scheme l.mask l.places l.a-iterator.rest

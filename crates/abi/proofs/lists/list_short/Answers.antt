@@ -7,6 +7,6 @@ pub returns-then-too_few : goal.returns-then-too_few
 unfolding list_short
 returns-then-too_few c = rw (← c.too_few.ensures, c.if-too_few.true) refl
 
-pub returns : goal.returns
+pub returns-else-too_few : goal.returns-else-too_few
 unfolding list_short
-returns c = rw (← c.too_few.ensures, c.if-too_few.false) refl
+returns-else-too_few c = rw (← c.too_few.ensures, c.if-too_few.false) refl

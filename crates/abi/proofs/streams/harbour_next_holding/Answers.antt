@@ -1,44 +1,27 @@
--- `abi::streams::harbour_next_holding` meets its contract: each way is its law's. Assumes nothing.
-use mathlib.Core.Path.{◌≡◌, sym, ap, ◌∙◌}
+-- `abi::streams::harbour_next_holding` meets its contract: too few words, or the call. Assumes nothing.
+use native.Mathlib.Omega.{arith}
+use mathlib.Core.Path.{◌≡◌, sym, ◌∙◌}
 use mathlib.Core.Bool.{false}
-use Rattle.tables.specs.declared.Catalogue.{Catalogue}
-use Rattle.machine.specs.Machine.{call}
-use Rattle.stream.specs.declared.HoldingRecord.{HoldingRecord}
-use Rattle.stream.specs.Promises.{held_by, holding_state_of}
 use Rattle.abi.specs.Streams.{holding_words, next_short}
-use Rattle.abi.specs.Words.{catalogue_in}
-use Rattle.abi.proofs.StreamCallLaws.{next-enough, next-short, next-done}
+use Rattle.abi.proofs.StreamCallLaws.{next-enough, next-short}
 use Rattle.abi.proofs.streams.harbour_next_holding.Goals.{Else-next_short}
 use Rattle.abi.proofs.streams.harbour_next_holding.Goals as goal
 
-enough : (c : Else-next_short)
-    → next_short holding_words c.before.args.catalogue.now c.before.args.words.now c.before.args.res.now ≡ false
+enough : (c : Else-next_short) → next_short holding_words c.args.catalogue.now c.args.words.now c.args.res.now ≡ false
 enough c = sym c.next_short.ensures ∙ c.if-next_short.false
 
 pub returns-then-next_short : goal.returns-then-next_short
 returns-then-next_short c = next-short _ _ _ _ _ _ _ _ _ (sym c.next_short.ensures ∙ c.if-next_short.true)
 
-pub catalogue_in-cat-requires : goal.catalogue_in-cat-requires
-catalogue_in-cat-requires c = (next-enough holding_words _ _ _ (enough c)).0
+pub bounds-words-3 : goal.bounds-words-3
+bounds-words-3 c = omega (arith, (next-enough holding_words _ _ _ (enough (goal.at.bounds-words-3 c).Else-next_short)).1)
 
-pub holding_in-before-requires : goal.holding_in-before-requires
-holding_in-before-requires c = (next-enough holding_words _ _ _ (enough (goal.at.holding_in-before-requires c).Else-next_short)).1
+pub bounds-words-4 : goal.bounds-words-4
+bounds-words-4 c = omega (arith, (next-enough holding_words _ _ _ (enough (goal.at.bounds-words-4 c).Else-next_short)).1)
 
-pub put_holding-requires : goal.put_holding-requires
-put_holding-requires c = (next-enough holding_words _ _ _ (enough (goal.at.put_holding-requires c).Else-next_short)).1
-
-pub put_result-requires : goal.put_result-requires
-put_result-requires c = (next-enough holding_words _ _ _ (enough (goal.at.put_result-requires c).Else-next_short)).2
+pub next_for-requires : goal.next_for-requires
+next_for-requires c =
+    let (a, b, d) = next-enough holding_words _ _ _ (enough (goal.at.next_for-requires c).Else-next_short) in (a, b, d)
 
 pub returns : goal.returns
-returns c =
-    let a = c.args in
-    let s = c.holding_in-before in
-    let r = c.step_holding-r.result in
-    next-done _ _ _ _ _ _ _ _ _ (held_by r.stream) (record { answer = r.answer; key = r.key; trials = r.trials; tests = r.tests; looks = r.looks; stream = r.stream.stream }) _ _ _ _ _ _ _ _ (enough (goal.at.returns c).Else-next_short)
-    (c.step_holding-r.ensures
-    ∙ ap (λ (x : Catalogue). call x a.cells.now a.budget (holding_state_of s.result a.low.now a.high.now a.left.now a.right.now) a.padded.now)
-    c.catalogue_in-cat.ensures
-    ∙ ap (λ (x : HoldingRecord). call (catalogue_in a.catalogue.now) a.cells.now a.budget (holding_state_of x a.low.now a.high.now a.left.now a.right.now) a.padded.now)
-    s.ensures)
-    c.number_of.ensures c.put_holding.ensures c.put_result.ensures
+returns c = rw (enough (goal.at.returns c).Else-next_short) c.next_for.ensures

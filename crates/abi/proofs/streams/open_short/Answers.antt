@@ -1,12 +1,12 @@
 -- `abi::streams::open_short` meets its contract: its two tests are the definition's. Assumes nothing.
-use mathlib.Core.Path.{refl}
+use mathlib.Core.Path.{refl, ◌∙◌}
 use Rattle.abi.specs.Streams.{open_short}
 use Rattle.abi.proofs.streams.open_short.Goals as goal
 
 pub returns-then-too_few : goal.returns-then-too_few
 unfolding open_short
-returns-then-too_few c = rw (← c.too_few.ensures, c.if-too_few.true) refl
+returns-then-too_few c = c.if-too_few.true ∙ rw (← c.too_few.ensures, c.if-too_few.true) refl
 
-pub returns : goal.returns
+pub returns-else-too_few : goal.returns-else-too_few
 unfolding open_short
-returns c = rw (← c.too_few.ensures, c.if-too_few.false) refl
+returns-else-too_few c = rw (← c.too_few.ensures, c.if-too_few.false) refl

@@ -2,26 +2,15 @@
 use native.Mathlib.Omega.{arith}
 use Prim.Native.Nat.{ℕ}
 use mathlib.Core.Path.{ap₂, ◌∙◌}
-use lib.ListN.{length-set}
 use Rattle.laws.specs.Lists.{put}
+use Rattle.keys.proofs.TwoWordLaws.{key-low, key-high}
 use Rattle.abi.specs.Streams.{result_of}
 use Rattle.abi.proofs.StreamCallLaws.{put_five}
 use Rattle.abi.proofs.streams.put_result.Goals as goal
 
-pub bounds-words-1 : goal.bounds-words-1
-bounds-words-1 c = simp length-set (omega arith)
-
-pub bounds-words-2 : goal.bounds-words-2
-bounds-words-2 c = simp length-set (omega arith)
-
-pub bounds-words-3 : goal.bounds-words-3
-bounds-words-3 c = simp length-set (omega arith)
-
-pub bounds-words-4 : goal.bounds-words-4
-bounds-words-4 c = simp length-set (omega arith)
-
 pub returns : goal.returns
 returns c =
+    let k = c.args.key in
+    let n = c.args.counts in
     put_five _ _ _ _ _ c.args.words.now c.requires
-    ∙ ap₂ (λ (x y : ℕ). put (result_of x y c.args.trials c.args.tests c.args.looks) c.args.words.now)
-    c.low_word.ensures c.high_word.ensures
+    ∙ ap₂ (λ (x y : ℕ). put (result_of x y n.trials n.tests n.looks) c.args.words.now) (key-low k (omega arith)) (key-high k (omega arith))

@@ -6,16 +6,14 @@ use Rattle.laws.proofs.ListLaws.{put-nil}
 use Rattle.exporter.proofs.TextLaws.{cell-null, cell-some}
 use Rattle.exporter.proofs.putter.put_cell.Goals as goal
 
-pub returns-then-code-eq0 : goal.returns-then-code-eq0
-returns-then-code-eq0 c =
-    let a = c.args in
-    rw (cell-null a.code c.if-code-eq0.true) (record { next = omega arith; bytes = sym (put-nil a.out.now a.at) })
+pub decimal-requires : goal.decimal-requires
+decimal-requires c =
+    omega (arith, c.requires, ap length (cell-some c.args.code c.if-code-ne0.true))
 
-pub put_decimal-requires : goal.put_decimal-requires
-put_decimal-requires c =
-    omega (arith, c.requires, ap length (cell-some c.args.code (λ e. c.if-code-eq0.false e)))
+pub returns-then-code-ne0-clause-puts : goal.returns-then-code-ne0-clause-puts
+returns-then-code-ne0-clause-puts c = rw (cell-some c.args.code c.if-code-ne0.true) c.decimal.ensures.puts
 
-pub returns : goal.returns
-returns c =
-    let a = c.args in
-    rw (cell-some a.code (λ e. c.if-code-eq0.false e)) c.put_decimal.ensures
+pub returns-else-code-ne0-clause-puts : goal.returns-else-code-ne0-clause-puts
+returns-else-code-ne0-clause-puts c =
+    let to = c.args.to.now in
+    rw (cell-null c.args.code c.if-code-ne0.false) (record { next = omega arith; bytes = sym (put-nil to.out.now to.at) })

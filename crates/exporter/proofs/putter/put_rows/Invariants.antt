@@ -1,17 +1,18 @@
 -- `exporter::putter::put_rows` meets its contract. Invariant: the lines that are left, from the cursor on, make the whole. Assumes nothing.
-use Prim.Native.Nat.{◌+◌, ◌*◌, ◌≤◌}
+use Prim.Native.Nat.{◌+◌}
 use mathlib.Core.Path.{◌≡◌}
-use lib.ListN.{length, drop}
+use lib.ListN.{length}
+use Rattle.std.specs.Slice.Iter.{chunks_exact_rest, chunks_exact_size}
 use Rattle.laws.specs.Lists.{over}
-use Rattle.text.specs.Writing.{lines_text, cut}
+use Rattle.lines.specs.Cursors.{SameBuffer}
+use Rattle.exporter.proofs.TextLaws.{lines_in}
 use Rattle.exporter.proofs.putter.put_rows.Given as goal
 
-abbrev pub invariant-loop-left : goal.invariant-loop-left
-invariant-loop-left l =
-    (l.from + l.left * l.w ≤ length l.cells)
-    × (length l.out ≡ length l.initial.out)
-    × (l.at + length (lines_text (cut l.left l.w (drop l.from l.cells))) ≡ l.start + length (lines_text (cut l.rows l.w l.cells)))
-    × (over l.start (lines_text (cut l.rows l.w l.cells)) l.initial.out ≡ over l.at (lines_text (cut l.left l.w (drop l.from l.cells))) l.out)
-
-abbrev pub decreases-loop-left : goal.decreases-loop-left
-decreases-loop-left l = l.left
+abbrev pub invariant-loop-row : goal.invariant-loop-row
+invariant-loop-row l =
+    record {
+      size : chunks_exact_size l.row-iterator ≡ l.width;
+      left : l.to.at + length (lines_in l.width (chunks_exact_rest l.row-iterator)) ≡ l.initial.to.at + length (lines_in l.width l.cells);
+      bytes : over l.initial.to.at (lines_in l.width l.cells) l.initial.to.out.now ≡ over l.to.at (lines_in l.width (chunks_exact_rest l.row-iterator)) l.to.out.now;
+      same : SameBuffer l.initial.to l.to;
+    }

@@ -1,45 +1,34 @@
--- `exporter::sizer::line_length` meets its contract. Invariant: what is counted and what is left to count make the whole. Assumes nothing.
+-- `exporter::sizer::line_length` meets its contract: the cells' lengths, and what stands between and behind them. Assumes nothing.
 use native.Mathlib.Omega.{arith}
-use mathlib.Core.Path.{sym, ap}
+use Prim.Native.Nat.{◌^◌}
+use mathlib.Core.Path.{◌≡◌}
 use lib.ListN.{length}
-use Rattle.laws.specs.Lists.{part}
-use Rattle.exporter.proofs.TextLaws.{rest-none, rest-length, line-length, line-few, part-few}
+use borrow.Author.Rules.{rules}
+use Rattle.std.specs.List.{sum_by}
+use Rattle.std.proofs.lemmas.Iterator.{YieldsList-from_slice, YieldsList-from_map}
+use Rattle.std.proofs.lemmas.Iterator.Consumers.{sum_by_from_yields_List, fits_by_from_yields_list}
+use Rattle.text.specs.Writing.{cell_text}
+use Rattle.exporter.proofs.TextLaws.{line-sum, fields-few}
+use Rattle.exporter.proofs.sizer.line_length.Goals.{After-sum-fields}
 use Rattle.exporter.proofs.sizer.line_length.Goals as goal
 
-pub loop-left-init : goal.loop-left-init
-loop-left-init c =
-    let a = c.args in
-    let e = line-length a.codes.now a.from a.w c.requires.0 (omega (arith, c.requires)) in
-    (omega (arith, c.requires), rw c.cell_length-sum.ensures (sym e))
+pub sum-fields-requires-clause-fits : goal.sum-fields-requires-clause-fits
+sum-fields-requires-clause-fits c =
+    let row = c.args.row.now in
+    fits_by_from_yields_list (λ x. length (cell_text x)) row c.map.result (2 ^ 64) (YieldsList-from_map _ (λ x. length (cell_text x)) (YieldsList-from_slice row cc) c.map.ensures.closure (λ x r q k. search rules))
+    (omega (arith, fields-few row, c.requires.1))
 
-pub overflow_add-sum : goal.overflow_add-sum
-overflow_add-sum c =
-    let a = c.args in
-    let l = c.loop-left in
-    omega (arith, line-few (part a.from a.w a.codes.now), part-few a.from a.w a.codes.now, c.requires, l.invariant.1)
-
-pub overflow_add-sum-in-loop-left : goal.overflow_add-sum-in-loop-left
-overflow_add-sum-in-loop-left c =
-    let a = c.args in
-    let l = c.loop-left in
-    let r = rest-length a.codes.now l.i l.left c.loop-left-test.true (omega (arith, l.invariant.0, c.loop-left-test.true)) in
-    rw c.cell_length.ensures (omega (arith, line-few (part a.from a.w a.codes.now), part-few a.from a.w a.codes.now, c.requires, l.invariant.1, r))
-
-pub loop-left-preserved : goal.loop-left-preserved
-loop-left-preserved c =
-    let a = c.args in
-    let l = c.loop-left in
-    let r = rest-length a.codes.now l.i l.left c.loop-left-test.true (omega (arith, l.invariant.0, c.loop-left-test.true)) in
-    (omega (arith, l.invariant.0, c.loop-left-test.true), rw c.cell_length.ensures (omega (arith, l.invariant.1, r)))
+-- What the fields come to.
+fields : (c : After-sum-fields) → c.sum-fields.result ≡ sum_by (λ x. length (cell_text x)) c.args.row.now
+fields c =
+    let row = c.args.row.now in
+    sum_by_from_yields_List (λ x. length (cell_text x)) row _ _ c.sum-fields.ensures.ran (YieldsList-from_map _ (λ x. length (cell_text x)) (YieldsList-from_slice row cc) c.map.ensures.closure (λ x r q k. search rules))
 
 pub overflow_add-result : goal.overflow_add-result
-overflow_add-result c =
-    let a = c.args in
-    let l = c.loop-left in
-    omega (arith, line-few (part a.from a.w a.codes.now), part-few a.from a.w a.codes.now, c.requires, l.invariant.1)
+overflow_add-result c = omega (arith, fields (goal.at.overflow_add-result c).After-sum-fields, fields-few c.args.row.now, c.requires.1)
+
+pub overflow_add-result-2 : goal.overflow_add-result-2
+overflow_add-result-2 c = omega (arith, fields (goal.at.overflow_add-result-2 c).After-sum-fields, fields-few c.args.row.now, c.requires.1)
 
 pub returns : goal.returns
-returns c =
-    let a = c.args in
-    let l = c.loop-left in
-    omega (arith, l.invariant.1, ap length (rest-none a.codes.now l.i l.left (omega (arith, c.loop-left-test.false))))
+returns c = omega (arith, fields (goal.at.returns c).After-sum-fields, line-sum c.args.row.now c.requires.0)

@@ -1,54 +1,39 @@
--- `exporter::sizer::rows_length` meets its contract. Invariant: what is counted and what is left to count make the whole. Assumes nothing.
+-- `exporter::sizer::rows_length` meets its contract. Invariant: the sum and the length of the lines that are left make the whole. Assumes nothing.
 use native.Mathlib.Omega.{arith}
-use Prim.Native.Nat.{◌+◌, ◌*◌}
-use mathlib.Core.Path.{ap}
-use native.Mathlib.Nat.{mul-le-mul_right}
-use lib.ListN.{length, drop}
-use Rattle.exporter.proofs.CheckLaws.{room-less}
-use Rattle.exporter.proofs.TextLaws.{lines_none, lines-length, lines-few}
+use native.Mathlib.Nat.{div-mul-le_self}
+use Prim.Native.Nat.{ℕ, ◌+◌, ◌/◌}
+use mathlib.Core.Path.{◌≡◌, ap, ◌∙◌}
+use mathlib.Core.List.{List}
+use lib.ListN.{length}
+use Rattle.std.specs.Slice.Iter.{chunks_exact_rest}
+use Rattle.text.specs.Writing.{line_text}
+use Rattle.exporter.proofs.TextLaws.{lines_in, lines-length, lines-end, lines-few}
+use Rattle.exporter.proofs.sizer.rows_length.Goals.{In-Some}
 use Rattle.exporter.proofs.sizer.rows_length.Goals as goal
 
-pub loop-left-init : goal.loop-left-init
-loop-left-init c =
-    (omega (arith, c.requires), omega arith)
-
-pub line_length-sum-requires : goal.line_length-sum-requires
-line_length-sum-requires c =
+-- The line of the row at hand, and the lines behind it.
+here : (c : In-Some)
+    → c.loop-row.sum + length (line_text c.in-Some.row.now) + length (lines_in c.args.width (chunks_exact_rest c.next.new.self)) ≡ length (lines_in c.args.width c.args.cells.now)
+here c =
     let a = c.args in
-    let l = c.loop-left in
-    let t = c.loop-left-test.true in
-    let q = room-less l.left a.w t in
-    (c.requires.0, c.requires.1, omega (arith, l.invariant.0, q))
+    let s = c.in-Some.ensures.steps in
+    let l = c.loop-row.invariant in
+    omega (arith, l.left, ap (λ (xs : List ℕ). length (lines_in a.width xs)) s.1.0, lines-length a.width c.in-Some.row.now (chunks_exact_rest c.next.new.self) c.requires.0 (s.1.1 ∙ l.size))
 
 pub overflow_add-sum : goal.overflow_add-sum
 overflow_add-sum c =
     let a = c.args in
-    let l = c.loop-left in
-    let t = c.loop-left-test.true in
-    let q = room-less l.left a.w t in
-    let k = lines-length l.left a.w a.cells.now l.from t in
-    let z = mul-le-mul_right (21 * a.w + 2) c.requires.2 in
-    rw c.line_length-sum.ensures (omega (arith, l.invariant.1, k, z, lines-few a.rows a.w a.cells.now, c.requires.1))
+    let few = lines-few (length a.cells.now / a.width) a.width a.cells.now c.requires.0 in
+    omega (arith, here (goal.at.overflow_add-sum c).In-Some, c.line_length-sum.ensures, few, div-mul-le_self (length a.cells.now) a.width, c.requires.1)
 
-pub overflow_add-from : goal.overflow_add-from
-overflow_add-from c =
-    let a = c.args in
-    let l = c.loop-left in
-    let t = c.loop-left-test.true in
-    let q = room-less l.left a.w t in
-    omega (arith, l.invariant.0, q, c.well_formed)
-
-pub loop-left-preserved : goal.loop-left-preserved
-loop-left-preserved c =
-    let a = c.args in
-    let l = c.loop-left in
-    let t = c.loop-left-test.true in
-    let q = room-less l.left a.w t in
-    let k = lines-length l.left a.w a.cells.now l.from t in
-    (omega (arith, l.invariant.0, q), rw c.line_length-sum.ensures (omega (arith, l.invariant.1, k)))
+pub loop-row-preserved : goal.loop-row-preserved
+loop-row-preserved c =
+    record {
+      size = c.in-Some.ensures.steps.0 ∙ c.loop-row.invariant.size;
+      left = rw c.line_length-sum.ensures (here (goal.at.loop-row-preserved c).In-Some);
+    }
 
 pub returns : goal.returns
 returns c =
-    let l = c.loop-left in
-    let a = c.args in
-    omega (arith, l.invariant.1, ap length (lines_none a.w a.cells.now l.left (drop l.from a.cells.now) (omega (arith, c.loop-left-test.false))))
+    let l = c.loop-row.invariant in
+    omega (arith, l.left, ap length (lines-end c.args.width (chunks_exact_rest c.loop-row.row-iterator) (omega (arith, c.in-None.ensures.steps.1.0, l.size))))

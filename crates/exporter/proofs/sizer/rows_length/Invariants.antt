@@ -1,13 +1,14 @@
--- `exporter::sizer::rows_length` meets its contract. Invariant: what is counted and what is left to count make the whole. Assumes nothing.
-use Prim.Native.Nat.{◌+◌, ◌*◌, ◌≤◌}
+-- `exporter::sizer::rows_length` meets its contract. Invariant: the sum and the length of the lines that are left make the whole. Assumes nothing.
+use Prim.Native.Nat.{◌+◌}
 use mathlib.Core.Path.{◌≡◌}
-use lib.ListN.{length, drop}
-use Rattle.text.specs.Writing.{lines_text, cut}
+use lib.ListN.{length}
+use Rattle.std.specs.Slice.Iter.{chunks_exact_rest, chunks_exact_size}
+use Rattle.exporter.proofs.TextLaws.{lines_in}
 use Rattle.exporter.proofs.sizer.rows_length.Given as goal
 
-abbrev pub invariant-loop-left : goal.invariant-loop-left
-invariant-loop-left l =
-    (l.from + l.left * l.w ≤ length l.cells) × (l.sum + length (lines_text (cut l.left l.w (drop l.from l.cells))) ≡ length (lines_text (cut l.rows l.w l.cells)))
-
-abbrev pub decreases-loop-left : goal.decreases-loop-left
-decreases-loop-left l = l.left
+abbrev pub invariant-loop-row : goal.invariant-loop-row
+invariant-loop-row l =
+    record {
+      size : chunks_exact_size l.row-iterator ≡ l.width;
+      left : l.sum + length (lines_in l.width (chunks_exact_rest l.row-iterator)) ≡ length (lines_in l.width l.cells);
+    }

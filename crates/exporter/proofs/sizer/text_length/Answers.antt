@@ -1,52 +1,54 @@
 -- `exporter::sizer::text_length` meets its contract: the header's line and the rows'. Assumes nothing.
 use native.Mathlib.Omega.{arith}
-use Prim.Native.Nat.{◌+◌, ◌*◌}
-use mathlib.Core.Path.{sym}
-use native.Mathlib.Nat.{mul-le-mul_right}
-use lib.Count.{ones, ones-le}
-use Rattle.text.specs.Writing.{attribute_codes}
-use Rattle.text.proofs.Headers.{header-width}
-use Rattle.exporter.proofs.TextLaws.{line-few, lines-few}
-use Rattle.exporter.proofs.WriteLaws.{good-table, ones-some, head-is, text-length}
+use native.Mathlib.Nat.{div-mul-le_self}
+use Prim.Native.Nat.{◌/◌}
+use mathlib.Core.Path.{◌≡◌, ◌∙◌}
+use lib.ListN.{length, take}
+use lib.Count.{ones}
+use Rattle.text.specs.Writing.{attribute_codes, line_text}
+use Rattle.exporter.proofs.TextLaws.{lines_in, line-few, lines-few}
+use Rattle.exporter.proofs.WriteLaws.{ones-some, codes-some, codes-few, text-length}
+use Rattle.exporter.proofs.sizer.text_length.Goals.{After-header-head, After-rows_length}
 use Rattle.exporter.proofs.sizer.text_length.Goals as goal
 
-pub attributes-requires : goal.attributes-requires
-attributes-requires c =
-    let a = c.args in
-    let p = good-table a.m a.scheme a.rows a.cells.now c.requires in
-    (omega (arith, p.attributes), omega (arith, p.attributes))
+-- The header's codes, in front of the rest.
+head : (c : After-header-head) → take c.width-width.result c.header-head.result ≡ attribute_codes c.args.table.now.m 0 c.args.table.now.scheme
+head c = rw c.width-width.ensures c.header-head.ensures
 
-pub line_length-first-requires : goal.line_length-first-requires
-line_length-first-requires c =
-    let a = c.args in
-    let p = good-table a.m a.scheme a.rows a.cells.now c.requires in
-    let s = ones-some a.m a.scheme p.scheme-some p.scheme-low in
-    let o = ones-le a.m a.scheme p.scheme-low in
-    rw c.width-w.ensures (s, omega (arith, o, p.attributes), omega (arith, o, p.attributes, c.attributes.auto))
+pub line_length-requires : goal.line_length-requires
+line_length-requires c =
+    let t = c.args.table.now in
+    rw (head (goal.at.line_length-requires c).After-header-head)
+    (codes-some t.m t.scheme t.some_scheme t.low_scheme, omega (arith, codes-few t.m t.scheme t.attributes t.low_scheme))
 
 pub rows_length-requires : goal.rows_length-requires
 rows_length-requires c =
-    let a = c.args in
-    let p = good-table a.m a.scheme a.rows a.cells.now c.requires in
-    let s = ones-some a.m a.scheme p.scheme-some p.scheme-low in
-    let o = ones-le a.m a.scheme p.scheme-low in
-    rw c.width-w.ensures (s, omega (arith, o, p.attributes), p.rows, p.fits)
+    let t = c.args.table.now in
+    rw c.width-width.ensures (ones-some t.m t.scheme t.some_scheme t.low_scheme, t.few)
+
+-- How long both are.
+both : (c : After-rows_length)
+    → (let t = c.args.table.now in
+    (c.line_length.result ≡ length (line_text (attribute_codes t.m 0 t.scheme))) × (c.rows_length.result ≡ length (lines_in (ones t.scheme) t.cells.now)))
+both c =
+    (c.line_length.ensures ∙ rw (head (goal.at-After-rows_length c).After-header-head), c.rows_length.ensures ∙ rw c.width-width.ensures)
 
 pub overflow_add-result : goal.overflow_add-result
 overflow_add-result c =
-    let a = c.args in
-    let p = good-table a.m a.scheme a.rows a.cells.now c.requires in
-    let s = ones-some a.m a.scheme p.scheme-some p.scheme-low in
-    let o = ones-le a.m a.scheme p.scheme-low in
-    let z = mul-le-mul_right (21 * ones a.scheme + 2) p.rows in
-    let l = rw (c.width-w.ensures, head-is a.m a.scheme _ _ p.scheme-low c.attributes.ensures) at c.line_length-first.ensures in
-    let k = header-width a.m 0 a.scheme p.scheme-low in
-    let r = rw c.width-w.ensures at c.rows_length.ensures in
-    omega (arith, l, r, z, o, p.attributes, line-few (attribute_codes a.m 0 a.scheme), k, lines-few a.rows (ones a.scheme) a.cells.now)
+    let t = c.args.table.now in
+    let w = ones t.scheme in
+    let k = length t.cells.now / w in
+    omega (
+      arith,
+      both (goal.at.overflow_add-result c).After-rows_length,
+      line-few (attribute_codes t.m 0 t.scheme),
+      codes-few t.m t.scheme t.attributes t.low_scheme,
+      lines-few k w t.cells.now (ones-some t.m t.scheme t.some_scheme t.low_scheme),
+      div-mul-le_self (length t.cells.now) w,
+      t.few,
+    )
 
 pub returns : goal.returns
 returns c =
-    let a = c.args in
-    let p = good-table a.m a.scheme a.rows a.cells.now c.requires in
-    rw (c.rows_length.ensures, c.line_length-first.ensures, c.width-w.ensures, head-is a.m a.scheme _ _ p.scheme-low c.attributes.ensures)
-    (sym (text-length a.m a.scheme a.rows a.cells.now))
+    let t = c.args.table.now in
+    omega (arith, both (goal.at.returns c).After-rows_length, text-length t.m t.scheme t.cells.now)

@@ -1,55 +1,29 @@
 -- `importer::collector::collect` meets its contract. Invariant: lines are read so far, and the places of their rows are kept. Assumes nothing.
-use native.Mathlib.Omega.{arith}
-use mathlib.Core.Path.{refl}
-use Rattle.importer.proofs.CollectLaws.{says_is, collect-start, collect-end, collect-bad, collect-on, collect-over}
+use Rattle.std.proofs.Common.{◌≡◌, ◌<◌, arith, rules, refl}
+use Rattle.std.specs.Prelude.{Ok, Some}
+use Rattle.tables.specs.Sizes.{most_rows}
+use Rattle.importer.proofs.CollectLaws.{collect-start, collect-over}
 use Rattle.importer.proofs.collector.collect.Goals as goal
 
-pub loop-number-init : goal.loop-number-init
-loop-number-init c =
-    let a = c.args in
-    (collect-start a.w a.text.now a.from a.places.now c.requires.2 c.requires.3, refl)
-
-pub returns-in-End : goal.returns-in-End
-returns-in-End c =
-    let l = c.loop-number in
-    let a = c.args in
-    collect-end a.w a.text.now a.from l.places l.at l.line l.n l.invariant.0 (says_is c.in-End.is c.row_line.ensures)
-
-pub returns-in-BadLine : goal.returns-in-BadLine
-returns-in-BadLine c =
-    let l = c.loop-number in
-    let a = c.args in
-    collect-bad a.w a.text.now a.from l.places l.at l.line l.n l.invariant.0 _ _ _ (says_is c.in-BadLine.is c.row_line.ensures)
+pub loop-next-init : goal.loop-next-init
+loop-next-init c =
+    let k = c.args.kept.now in
+    (refl, refl, rw c.requires.0 (collect-start k.lines.width k.lines.text.now c.args.from k.places c.requires.1 c.requires.2))
 
 pub overflow_add-line : goal.overflow_add-line
 overflow_add-line c =
-    let l = c.loop-number in
-    let e = says_is c.in-Row.is c.row_line.ensures in
-    omega (arith, e.sizes, l.invariant.0.low, c.well_formed)
+    let l = c.loop-next in
+    let e : c.read.result ≡ Ok (Some c.in-Some.next) = search rules in
+    let h = rw e at c.read.ensures in
+    omega (arith, h.sizes, l.invariant.2.low, c.args.kept.now.lines.short)
 
-pub refuse_rest-requires : goal.refuse_rest-requires
-refuse_rest-requires c =
-    let l = c.loop-number in
-    let e = says_is c.in-Row.is c.row_line.ensures in
-    (c.requires.0, c.requires.1, e.sizes.1, omega (arith, e.sizes, l.invariant.0.low))
-
-pub returns-then-n-gt4095 : goal.returns-then-n-gt4095
-returns-then-n-gt4095 c =
-    let l = c.loop-number in
-    let a = c.args in
-    let e = says_is c.in-Row.is c.row_line.ensures in
-    let k = c.keep-n in
-    collect-over a.w a.text.now a.from l.places l.at l.line l.n l.invariant.0 _ _ _ e k.ensures c.if-n-gt4095.true (omega (arith, k.ensures.most, l.invariant.0.few, l.invariant.1, k.auto, c.requires.4)) c.refuse_rest.ensures
-
-pub loop-number-smaller : goal.loop-number-smaller
-loop-number-smaller c =
-    let e = says_is c.in-Row.is c.row_line.ensures in
-    omega (arith, e.sizes)
-
-pub loop-number-preserved : goal.loop-number-preserved
-loop-number-preserved c =
-    let l = c.loop-number in
-    let a = c.args in
-    let e = says_is c.in-Row.is c.row_line.ensures in
-    let k = c.keep-n in
-    (collect-on a.w a.text.now a.from l.places l.at l.line l.n l.invariant.0 _ _ _ e k.ensures (omega (arith, c.if-n-gt4095.false)), omega (arith, k.auto, l.invariant.1))
+pub returns-then-len-gt-MOST_ROWS-clause-told : goal.returns-then-len-gt-MOST_ROWS-clause-told
+returns-then-len-gt-MOST_ROWS-clause-told c =
+    let l = c.loop-next in
+    let k = c.args.kept.now in
+    let e : c.read.result ≡ Ok (Some c.in-Some.next) = search rules in
+    let q : l.kept.lines ≡ k.lines = cc in
+    let keeps = rw q at c.keep.ensures.kept in
+    let n : most_rows < c.keep.new.self.count = omega (arith, c.len.ensures, c.if-len-gt-MOST_ROWS.true) in
+    collect-over k.lines.width k.lines.text.now c.args.from l.kept.places l.at l.line l.kept.count l.invariant.2 _ _ _ (rw e at c.read.ensures) keeps n c.keep.new.self.room
+    c.refuse_rest.ensures

@@ -1,11 +1,10 @@
 -- `importer::collector::refuse_rest` meets its contract. Invariant: lines are read so far, past the most rows. Assumes nothing.
-use Prim.Native.Nat.{◌-◌}
-use lib.ListN.{length}
+use Rattle.std.proofs.Common.{◌-◌, length}
 use Rattle.importer.proofs.CollectLaws.{RestSoFar}
 use Rattle.importer.proofs.collector.refuse_rest.Given as goal
 
-abbrev pub invariant-loop-number : goal.invariant-loop-number
-invariant-loop-number l = RestSoFar l.w l.text l.from l.first l.at l.line
+abbrev pub invariant-loop-next : goal.invariant-loop-next
+invariant-loop-next l = RestSoFar l.lines.width l.lines.text.now l.from l.first l.at l.line
 
-abbrev pub decreases-loop-number : goal.decreases-loop-number
-decreases-loop-number l = length l.text - l.at
+abbrev pub decreases-loop-next : goal.decreases-loop-next
+decreases-loop-next l = length l.lines.text.now - l.at

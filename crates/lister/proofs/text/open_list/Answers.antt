@@ -1,18 +1,18 @@
 -- `lister::text::open_list` meets its contract: the first line is put, and every set that is asked for is still to come (`open_gives`), or the refusal's
 -- line is all the text (`refused-gives`). Assumes nothing.
-use native.Mathlib.Omega.{arith}
 use Rattle.lister.proofs.ListingLaws.{open_gives, refused-gives}
 use Rattle.lister.proofs.text.open_list.Goals as goal
 
-pub returns-then-o-gt0 : goal.returns-then-o-gt0
-returns-then-o-gt0 c =
-    let s = c in
-    let o = c.open_for-opened in
-    refused-gives s.args.scope s.args.cat s.args.cells.now _ _ _ _ o.result c.ended.result (rw (s.requires.2, s.requires.3, s.requires.4, s.requires.5) at o.ensures) (omega (arith, c.if-o-gt0.true)) s.requires.6 c.ended.ensures.0 c.ended.ensures.1 c.put_refusal.ensures
+pub returns-in-Ok-clause-gives : goal.returns-in-Ok-clause-gives
+returns-in-Ok-clause-gives c =
+    let a = c.args in
+    let p = c.requires in
+    rw c.none.ensures
+    (open_gives a.scope a.tables _ _ (rw (p.0.0, p.0.1, p.0.2, p.0.3) at c.in-Ok.ensures) p.2
+    (rw (c.total_rows.ensures, p.1) at c.put_tables.ensures.puts))
 
-pub returns : goal.returns
-returns c =
-    let s = c in
-    let o = c.open_for-opened in
-    let t = rw c.total_rows-total.ensures at c.put_tables-filled.ensures in
-    open_gives s.args.scope s.args.cat s.args.cells.now _ _ _ _ o.result s.requires.0 s.requires.1 (rw (s.requires.2, s.requires.3, s.requires.4, s.requires.5) at o.ensures) (omega (arith, c.if-o-gt0.false)) s.requires.6 t
+pub returns-in-Err-clause-gives : goal.returns-in-Err-clause-gives
+returns-in-Err-clause-gives c =
+    let a = c.args in
+    let p = c.requires in
+    refused-gives a.scope a.tables.catalogue a.tables.cells.now _ c.in-Err.refusal (rw (p.0.0, p.0.1, p.0.2, p.0.3) at c.in-Err.ensures) p.2 (rw p.1 at c.put_refusal.ensures.puts)

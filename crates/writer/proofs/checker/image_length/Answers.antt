@@ -5,64 +5,57 @@ use mathlib.Core.Path.{◌≡◌, ap}
 use lib.ListN.{length}
 use Rattle.numbers.specs.Numbers.{most_bytes}
 use Rattle.tables.specs.Sizes.{most_tables, most_cells}
-use Rattle.tables.specs.Catalogues.{place_in}
-use Rattle.writer.specs.Write.{image_of}
-use Rattle.writer.proofs.AcceptLaws.{fault-accepted}
-use Rattle.writer.proofs.WriteLaws.{Table, table-good, head-length, image-none, image-few}
-use Rattle.writer.proofs.checker.image_length.Goals.{After-width}
+use Rattle.writer.specs.Write.{tables_image, image_of}
+use Rattle.writer.proofs.WriteLaws.{Table, head-low, table-good, head-length, image-none, image-few}
+use Rattle.writer.proofs.checker.image_length.Goals.{In-loop-t, After-run_size-in-loop-t}
 use Rattle.writer.proofs.checker.image_length.Goals as goal
 
--- What the table at hand has,
-here : (c : After-width)
-    → (Table c.args.cat c.args.cells.now c.loop-t.t (place_in c.args.cat c.loop-t.t) c.width.result)
-here c = table-good _ _ c.requires c.loop-t.t c.width.result c.loop-t-test.true c.width.ensures
+-- What the table at hand has.
+here : (c : In-loop-t) → Table c.args.tables.now.catalogue c.args.tables.now.cells.now c.loop-t.t
+here c = table-good _ _ c.requires c.loop-t.t c.loop-t-test.true
 
--- and the whole is short.
-short : (c : After-width)
-    → length (image_of c.args.cat c.args.cells.now) ≤ most_bytes * (3 + 2 * most_tables + most_cells)
-short c = image-few _ _ c.requires
-
-pub head_size-sum-requires : goal.head_size-sum-requires
-head_size-sum-requires c = let L = (fault-accepted _ _ c.requires).lawful in (L.attributes, L.tables)
+pub run_size-sum-requires : goal.run_size-sum-requires
+run_size-sum-requires c =
+    let L = c.args.tables.now.lawful in
+    rw c.head.ensures (omega arith, head-low c.args.tables.now.catalogue L.attributes L.tables)
 
 pub loop-t-init : goal.loop-t-init
 loop-t-init c =
-    let e : c.args.cat.n - 0 ≡ c.args.cat.n = omega arith in
-    (omega arith, rw e (omega (arith, c.head_size-sum.ensures, head-length c.args.cat c.args.cells.now)), (fault-accepted _ _ c.requires).lawful.tables)
-
-pub overflow_mul-count : goal.overflow_mul-count
-overflow_mul-count c = omega (arith, (here c).most)
-
-pub size-requires : goal.size-requires
-size-requires c = (here c).scheme
-
-pub overflow_add-sum : goal.overflow_add-sum
-overflow_add-sum c = omega (arith, c.size.ensures, (here (goal.at.overflow_add-sum c).After-width).size, (here (goal.at.overflow_add-sum c).After-width).three, c.loop-t.invariant.1, short (goal.at.overflow_add-sum c).After-width)
-
-pub size-requires-in-loop-t : goal.size-requires-in-loop-t
-size-requires-in-loop-t c = omega (arith, (here (goal.at.size-requires-in-loop-t c).After-width).rows)
-
-pub overflow_add-sum-in-loop-t : goal.overflow_add-sum-in-loop-t
-overflow_add-sum-in-loop-t c = omega (arith, c.size-in-loop-t.ensures, c.size.ensures, (here (goal.at.overflow_add-sum-in-loop-t c).After-width).size, (here (goal.at.overflow_add-sum-in-loop-t c).After-width).three, c.loop-t.invariant.1, short (goal.at.overflow_add-sum-in-loop-t c).After-width)
+    let T = c.args.tables.now in
+    let e : T.catalogue.n - 0 ≡ T.catalogue.n = omega arith in
+    rw (e, c.run_size-sum.ensures, c.head.ensures) (omega (arith, head-length T.catalogue T.cells.now))
 
 pub run_size-requires : goal.run_size-requires
-run_size-requires c =
-    let g = here (goal.at.run_size-requires c).After-width in
-    (g.inside, omega (arith, g.most), g.low)
+run_size-requires c = rw c.table_head.ensures (omega arith, (here (goal.at.run_size-requires c).In-loop-t).head_low)
 
-pub overflow_add-sum-in-loop-t-2 : goal.overflow_add-sum-in-loop-t-2
-overflow_add-sum-in-loop-t-2 c = omega (arith, c.run_size.ensures, c.size-in-loop-t.ensures, c.size.ensures, (here (goal.at.overflow_add-sum-in-loop-t-2 c).After-width).size, (here (goal.at.overflow_add-sum-in-loop-t-2 c).After-width).three, c.loop-t.invariant.1, short (goal.at.overflow_add-sum-in-loop-t-2 c).After-width)
+pub run_size-requires-in-loop-t : goal.run_size-requires-in-loop-t
+run_size-requires-in-loop-t c =
+    let g = here (goal.at.run_size-requires-in-loop-t c).In-loop-t in
+    rw c.cells_of.ensures (g.few, g.low)
+
+-- How many bytes are left, with the table at hand and behind it, in the words of the code; and the whole is short.
+left : (c : After-run_size-in-loop-t)
+    → (let T = c.args.tables.now in
+    (c.loop-t.sum + (c.run_size.result + c.run_size-in-loop-t.result) + length (tables_image (T.catalogue.n - (c.loop-t.t + 1)) T.catalogue T.cells.now (c.loop-t.t + 1))
+    ≡ length (image_of T.catalogue T.cells.now))
+    × (length (image_of T.catalogue T.cells.now) ≤ most_bytes * (3 + 2 * most_tables + most_cells)))
+left c =
+    let T = c.args.tables.now in (
+      rw (c.run_size.ensures, c.table_head.ensures, c.run_size-in-loop-t.ensures, c.cells_of.ensures)
+          (omega (arith, c.loop-t.invariant, (here (goal.at-After-run_size-in-loop-t c).In-loop-t).size)),
+      image-few T.catalogue T.cells.now c.requires,
+    )
+
+pub overflow_add-sum : goal.overflow_add-sum
+overflow_add-sum c = omega (arith, left (goal.at.overflow_add-sum c).After-run_size-in-loop-t)
+
+pub overflow_add-sum-in-loop-t : goal.overflow_add-sum-in-loop-t
+overflow_add-sum-in-loop-t c = omega (arith, left (goal.at.overflow_add-sum-in-loop-t c).After-run_size-in-loop-t)
 
 pub loop-t-preserved : goal.loop-t-preserved
-loop-t-preserved c =
-    let l = c.loop-t in (
-      omega (arith, c.loop-t-test.true),
-      omega (arith, c.run_size.ensures, c.size-in-loop-t.ensures, c.size.ensures, (here (goal.at.loop-t-preserved c).After-width).size, (here (goal.at.loop-t-preserved c).After-width).three, l.invariant.1),
-      l.invariant.2,
-    )
+loop-t-preserved c = (left (goal.at.loop-t-preserved c).After-run_size-in-loop-t).0
 
 pub returns : goal.returns
 returns c =
-    let l = c.loop-t in
-    let p = c.args in
-    omega (arith, l.invariant.1, ap length (image-none p.cat p.cells.now (p.cat.n - l.t) l.t (omega arith)))
+    let T = c.args.tables.now in
+    omega (arith, c.loop-t.invariant, ap length (image-none T.catalogue T.cells.now (T.catalogue.n - c.loop-t.t) c.loop-t.t (omega (arith, c.loop-t-test.false))))

@@ -1,26 +1,30 @@
--- `writer::checker::run_size` meets its contract. Invariant: the sum and the length of what is left make the whole length. Assumes nothing.
+-- `writer::checker::run_size` meets its contract: the sum of the sizes is the length of all, and a run is short. Assumes nothing.
 use native.Mathlib.Omega.{arith}
-use mathlib.Core.Path.{ap}
+use Prim.Native.Nat.{◌^◌, ◌<◌}
+use mathlib.Core.Path.{sym, ◌∙◌}
 use lib.ListN.{length}
-use Rattle.writer.proofs.WriteLaws.{low-next, run_none, run_length, run-few}
+use borrow.Author.Rules.{rules}
+use Rattle.std.specs.List.{All}
+use Rattle.std.proofs.iter.Serving.{serving}
+use Rattle.std.proofs.lemmas.Iterator.{YieldsList-from_slice, YieldsList-from_map}
+use Rattle.std.proofs.lemmas.Iterator.Consumers.{sum_by_from_yields_List, fits_by_from_yields_list}
+use Rattle.numbers.specs.Numbers.{encode}
+use Rattle.writer.proofs.WriteLaws.{length-encodes, low-at, run-few}
 use Rattle.writer.proofs.checker.run_size.Goals as goal
 
-pub size-sum-requires : goal.size-sum-requires
-size-sum-requires c =
-    let l = c.loop-left in
-    (low-next _ l.i l.left (omega arith) (omega arith) l.invariant.1).0
+pub sum-requires-clause-can : goal.sum-requires-clause-can
+sum-requires-clause-can c =
+    let low : All (λ x. x < 2 ^ 63) c.args.numbers.now = low-at _ c.requires.1 in
+    grind serving
 
-pub overflow_add-sum : goal.overflow_add-sum
-overflow_add-sum c =
-    let l = c.loop-left in
-    omega (arith, run_length c.args.cells.now l.i l.left (omega arith) (omega arith), run-few c.args.cells.now c.args.from c.args.count, c.size-sum.ensures)
-
-pub loop-left-preserved : goal.loop-left-preserved
-loop-left-preserved c =
-    let l = c.loop-left in
-    (omega arith, (low-next _ l.i l.left (omega arith) (omega arith) l.invariant.1).1, omega (arith, run_length c.args.cells.now l.i l.left (omega arith) (omega arith), c.size-sum.ensures))
+pub sum-requires-clause-fits : goal.sum-requires-clause-fits
+sum-requires-clause-fits c =
+    let xs = c.args.numbers.now in
+    fits_by_from_yields_list (λ x. length (encode x)) xs c.map.result (2 ^ 64) (YieldsList-from_map _ (λ x. length (encode x)) (YieldsList-from_slice xs cc) c.map.ensures.closure (λ x r q k. search rules))
+    (omega (arith, sym (length-encodes xs), run-few xs))
 
 pub returns : goal.returns
 returns c =
-    let l = c.loop-left in
-    omega (arith, ap length (run_none c.args.cells.now l.i l.left (omega arith)))
+    let xs = c.args.numbers.now in
+    sum_by_from_yields_List (λ x. length (encode x)) xs _ _ c.sum.ensures.ran (YieldsList-from_map _ (λ x. length (encode x)) (YieldsList-from_slice xs cc) c.map.ensures.closure (λ x r q k. search rules))
+    ∙ sym (length-encodes xs)

@@ -1,72 +1,71 @@
 -- `writer::putter::put_image` meets its contract. Invariant: the tables that are left, from the cursor on, make the whole answer. Assumes nothing.
 use native.Mathlib.Omega.{arith}
-use Prim.Native.Nat.{ℕ, ◌+◌, ◌-◌, ◌≤◌}
-use mathlib.Core.Path.{◌≡◌, refl, sym, ap, ◌∙◌}
-use mathlib.Core.List.{List}
+use Prim.Native.Nat.{◌+◌, ◌-◌, ◌≤◌}
+use mathlib.Core.Path.{◌≡◌, sym, ◌∙◌}
 use lib.ListN.{length}
-use Rattle.laws.specs.Lists.{put}
+use Rattle.laws.specs.Lists.{Placed}
 use Rattle.laws.proofs.ListLaws.{put-nil}
-use Rattle.tables.specs.declared.Catalogue.{Catalogue}
-use Rattle.tables.specs.Catalogues.{place_in}
-use Rattle.writer.specs.Write.{tables_image, image_of, head_bytes}
-use Rattle.writer.proofs.AcceptLaws.{fault-accepted}
 use Rattle.laws.proofs.PlacedLaws.{placed-length, placed-rest}
-use Rattle.writer.proofs.WriteLaws.{table_bytes, Table, table-good, head-length, image-none, image-head}
-use Rattle.writer.proofs.putter.put_image.Goals.{After-width}
+use Rattle.writer.specs.Write.{encodes, cells_of, tables_image}
+use Rattle.writer.proofs.WriteLaws.{head_run, table_run, Table, head-low, table-good, head-length, image-none, image-head}
+use Rattle.writer.proofs.putter.put_image.Goals.{In-loop-t, After-put_run-at-in-loop-t}
 use Rattle.writer.proofs.putter.put_image.Goals as goal
 
--- There is room for the head.
-room : (cat : Catalogue) (cells out : List ℕ) → length (image_of cat cells) ≤ length out → 0 + length (head_bytes cat) ≤ length out
-room cat cells out h = omega (arith, head-length cat cells)
+-- What the table at hand has.
+here : (c : In-loop-t) → Table c.args.tables.now.catalogue c.args.tables.now.cells.now c.loop-t.t
+here c = table-good _ _ c.requires.0 c.loop-t.t c.loop-t-test.true
 
--- What the table at hand has,
-here : (c : After-width)
-    → (Table c.args.cat c.args.cells.now c.loop-t.t (place_in c.args.cat c.loop-t.t) c.width.result)
-here c = table-good _ _ c.requires.0 c.loop-t.t c.width.result c.loop-t-test.true c.width.ensures
-
--- and there is room for it.
-fits : (c : After-width)
-    → (c.loop-t.at + length (table_bytes c.args.cat c.args.cells.now c.loop-t.t (place_in c.args.cat c.loop-t.t) c.width.result)
-    ≤ length c.loop-t.out)
-fits c =
-    omega (arith, (here c).size, c.loop-t.invariant.1, c.loop-t.invariant.2, placed-length (room _ _ _ c.requires.1) c.put_head-at.ensures, c.requires.1)
-
-pub put_head-at-requires : goal.put_head-at-requires
-put_head-at-requires c =
-    let L = (fault-accepted _ _ c.requires.0).lawful in
-    (L.attributes, L.tables, omega (arith, head-length c.args.cat c.args.cells.now, c.requires.1))
+pub put_run-at-requires : goal.put_run-at-requires
+put_run-at-requires c =
+    let T = c.args.tables.now in
+    rw c.head.ensures (head-low T.catalogue T.lawful.attributes T.lawful.tables, omega (arith, head-length T.catalogue T.cells.now, c.requires.1))
 
 pub loop-t-init : goal.loop-t-init
 loop-t-init c =
-    let cat = c.args.cat in
-    let h = c.put_head-at.ensures in
-    let e : cat.n - 0 ≡ cat.n = omega arith in
-    (omega arith, refl, rw e (omega (arith, h.next, head-length cat c.args.cells.now)), rw e, (fault-accepted _ _ c.requires.0).lawful.tables)
+    let T = c.args.tables.now in
+    let e : T.catalogue.n - 0 ≡ T.catalogue.n = omega arith in
+    let p = rw c.head.ensures at c.put_run-at.ensures in
+    let room : 0 + length (encodes (head_run T.catalogue)) ≤ length c.args.out.now = omega (arith, head-length T.catalogue T.cells.now, c.requires.1) in
+    record {
+      left = rw e (omega (arith, p.next, head-length T.catalogue T.cells.now));
+      bytes = rw (e, image-head T.catalogue T.cells.now) (placed-rest room p (tables_image T.catalogue.n T.catalogue T.cells.now 0));
+    }
 
-pub overflow_mul-count : goal.overflow_mul-count
-overflow_mul-count c = omega (arith, (here c).most)
+-- The numbers before the table's cells stand where they belong, and there is room for them.
+before_cells : (c : After-put_run-at-in-loop-t)
+    → (let head = table_run c.args.tables.now.catalogue c.loop-t.t in
+    (c.loop-t.at + length (encodes head) ≤ length c.loop-t.out) × Placed (encodes head) c.loop-t.at c.loop-t.out c.put_run-at-in-loop-t.result c.put_run-at-in-loop-t.new.out)
+before_cells c = (
+  omega (arith, (here (goal.at-After-put_run-at-in-loop-t c).In-loop-t).size, c.loop-t.invariant.left, c.loop-t.auto, c.put_run-at.auto, c.requires.1),
+  rw c.table_head.ensures at c.put_run-at-in-loop-t.ensures,
+)
 
-pub put_table-at-requires : goal.put_table-at-requires
-put_table-at-requires c =
-    let g = here (goal.at.put_table-at-requires c).After-width in
-    (g.scheme, omega (arith, g.rows), g.inside, g.low, omega (arith, g.three, fits (goal.at.put_table-at-requires c).After-width))
+pub put_run-at-requires-in-loop-t : goal.put_run-at-requires-in-loop-t
+put_run-at-requires-in-loop-t c =
+    let g = here (goal.at.put_run-at-requires-in-loop-t c).In-loop-t in
+    rw c.table_head.ensures (g.head_low, omega (arith, g.size, c.loop-t.invariant.left, c.loop-t.auto, c.put_run-at.auto, c.requires.1))
+
+pub put_run-at-requires-in-loop-t-2 : goal.put_run-at-requires-in-loop-t-2
+put_run-at-requires-in-loop-t-2 c =
+    let g = here (goal.at.put_run-at-requires-in-loop-t-2 c).In-loop-t in
+    let (room, p) = before_cells (goal.at.put_run-at-requires-in-loop-t-2 c).After-put_run-at-in-loop-t in
+    rw c.cells_of.ensures (g.low, omega (arith, p.next, placed-length room p, g.size, c.loop-t.invariant.left, c.loop-t.auto, c.put_run-at.auto, c.requires.1))
 
 pub loop-t-preserved : goal.loop-t-preserved
 loop-t-preserved c =
     let l = c.loop-t in
-    let w = c.put_table-at.ensures in
-    let g = here (goal.at.loop-t-preserved c).After-width in
-    let f = fits (goal.at.loop-t-preserved c).After-width in (
-      omega (arith, c.loop-t-test.true),
-      placed-length f w ∙ l.invariant.1,
-      omega (arith, w.next, g.size, l.invariant.2),
-      l.invariant.3 ∙ rw g.bytes (placed-rest f w _),
-      l.invariant.4,
-    )
+    let g = here (goal.at.loop-t-preserved c).In-loop-t in
+    let (room, p) = before_cells (goal.at.loop-t-preserved c).After-put_run-at-in-loop-t in
+    let q = rw c.cells_of.ensures at c.put_run-at-in-loop-t-2.ensures in
+    let more : c.put_run-at-in-loop-t.result + length (encodes (cells_of c.args.tables.now.catalogue c.args.tables.now.cells.now l.t)) ≤ length c.put_run-at-in-loop-t.new.out
+    = omega (arith, p.next, placed-length room p, g.size, l.invariant.left, l.auto, c.put_run-at.auto, c.requires.1) in
+    record {
+      left = omega (arith, p.next, q.next, g.size, l.invariant.left);
+      bytes = l.invariant.bytes ∙ rw g.bytes (placed-rest room p _ ∙ placed-rest more q _);
+    }
 
 pub returns : goal.returns
 returns c =
     let l = c.loop-t in
-    let a = c.args in
-    let whole = ap (λ (bs : List ℕ). put bs a.out.now) (image-head a.cat a.cells.now) ∙ placed-rest (room _ _ _ c.requires.1) c.put_head-at.ensures (tables_image a.cat.n a.cat a.cells.now 0) in
-    sym (whole ∙ l.invariant.3 ∙ rw (image-none a.cat a.cells.now (a.cat.n - l.t) l.t (omega arith)) (put-nil l.out l.at))
+    let T = c.args.tables.now in
+    sym (l.invariant.bytes ∙ rw (image-none T.catalogue T.cells.now (T.catalogue.n - l.t) l.t (omega (arith, c.loop-t-test.false))) (put-nil l.out l.at))
