@@ -7,18 +7,23 @@ use mathlib.Core.Logic.{◌≢◌, ⊎_elim}
 use native.Mathlib.Omega.{arith}
 use native.Mathlib.Decide.{dec_lt}
 use native.Mathlib.Numerals.{add-one}
-use native.Mathlib.Nat.{mod-lt, min-zero, zero-div, suc-mul, div-eq_of_lt, div_self, lt_of_lt_of_le}
+use native.Mathlib.Nat.{mod-lt, min-zero, zero-div, pow-suc, pow-zero, mul-suc, mul-zero, suc-mul, div-eq_of_lt, div_self, lt_of_lt_of_le}
 use lib.Arith.{lt-one}
 use lib.Bits.{bit_and, bit_or, bit_xor, and_step, and_zero_l, and_self, and_block, and_shr, and_mod, and_lt, or_shr, or_mod, xor_shr, xor_mod}
 use lib.Count.{ones, ones_step, ones_cat, ones-le, count_trailing_zeros, under}
 use lib.Dec.{eqb}
-use lib.Pow.{pow_pos, ones_lt, pow_mono, split, high, low, field, mod-mod-pow, recompose, shr-shr, shr_lt}
+use lib.Pow.{pow-add, pow_pos, ones_lt, pow_mono, split, high, low, field, mod-mod-pow, recompose, shr-shr, shr_lt}
 use borrow.Author.Tests.{eqb-true, eq-eqb, ne_eqb}
 use Rattle.laws.specs.Tests.{any}
 use Rattle.laws.proofs.TestLaws.{which, clash, any_some, any_of}
 use Rattle.words.specs.Words.{bit_of, LowestBit}
 
 -- ---- parts of a word
+
+pub pow-pow : (w t : ℕ) → (2 ^ w) ^ t ≡ 2 ^ (w * t)
+pow-pow w zero = pow-zero (2 ^ w) ∙ sym (ap (λ (x : ℕ). 2 ^ x) (mul-zero w))
+pow-pow w (suc t) =
+    pow-suc (2 ^ w) t ∙ ap (λ (x : ℕ). x * 2 ^ w) (pow-pow w t) ∙ sym (pow-add 2 (w * t) w) ∙ ap (λ (x : ℕ). 2 ^ x) (sym (mul-suc w t))
 
 -- c bits from a on, where all of them lie within the b low bits.
 pub cut : (n a b c : ℕ) → a + c ≤ b → n % 2 ^ b / 2 ^ a % 2 ^ c ≡ n / 2 ^ a % 2 ^ c
@@ -162,6 +167,15 @@ trailing-lowest (suc k) n p h = go (n % 2) refl (λ q. trailing-lowest k (n / 2)
     go (suc d) e ih =
         let f : n % 2 ≡ 1 = omega arith in
         record { narrow = omega arith; itself = first_bit n 1 f; below = λ i l. absurd (omega arith) }
+
+-- There is one lowest set bit.
+pub lowest-one : (v w k a b : ℕ) → LowestBit v k a → LowestBit w k b → a ≡ b
+lowest-one v w k a b x y = go (dec_lt a b) (dec_lt b a)
+  where
+    go : Dec (a < b) → Dec (b < a) → a ≡ b
+    go (yes l) m = absurd (clash x.itself (y.below a l))
+    go (no f) (yes m) = absurd (clash y.itself (x.below b m))
+    go (no f) (no g) = omega arith
 
 -- ---- a bit taken away
 
