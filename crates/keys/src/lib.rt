@@ -2,7 +2,7 @@
 
 // A row set as two words, its key: the row number of each table in bits of its own, tables 0 to 4 in the first word from its lowest bit on, 5 to 7 in
 // the second. What is said of a key is said of its number, in which the second word's bits stand above the first's rows.
-ghost use Rattle.std.specs.Prelude.{◌≡◌, ◌*◌, ◌<◌, ◌≤◌, ◌^◌, leb};
+ghost use Rattle.std.specs.Prelude.{◌≡◌, ◌*◌, ◌<◌, ◌≤◌, ◌^◌, eqb, leb};
 ghost use Rattle.words.specs.Words.{bit_of};
 ghost use Rattle.keys.specs.Keys.{bits_per_row, most_tables, row_of, with_row};
 ghost use Rattle.keys.specs.TwoWords.{tables_in_low, number_of};
@@ -56,6 +56,14 @@ impl Key {
         ensures { number_of result ≡ 0 }
     {
         Key { low: 0, high: 0 }
+    }
+
+    // Whether two keys are the same, both words whole.
+    // It is the look of a search, and how a set is known again.
+    pub fn same(self, other: Key) -> bool
+        ensures { result ≡ eqb (number_of self) (number_of other) }
+    {
+        self.low == other.low && self.high == other.high
     }
 
     // The row number of table t, or 0 where the set has no row of it.
