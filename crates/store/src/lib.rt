@@ -120,7 +120,7 @@ impl Keys<'_> {
         let mut p: usize = 0;
         for d in 0..deepest {
             let looks = d + 1;
-            if self.at(p) == sought {
+            if self.at(p).same(sought) {
                 return Ok(Search::Found { place: p, looks });
             }
             let link = Link {
@@ -137,12 +137,24 @@ impl Keys<'_> {
         }
         // The last look: no bit is left to turn by.
         let looks = deepest + 1;
-        if self.at(p) == sought {
+        if self.at(p).same(sought) {
             Ok(Search::Found { place: p, looks })
         } else {
             Err(Damaged { looks })
         }
     }
+}
+
+// How many records a store in these slices has room for: the shortest slice counts, and never more than 65,535.
+// It asks no more than to read them, so that a store that is only looked at has its room too.
+pub fn room(low: &[u64], high: &[u64], left: &[u16], right: &[u16]) -> usize
+    ensures { result ≡ room_of (length low.now) (length high.now) (length left.now) (length right.now) }
+{
+    MOST_RECORDS
+        .min(low.len())
+        .min(high.len())
+        .min(left.len())
+        .min(right.len())
 }
 
 // The four slices of a store, lent to be written.
@@ -155,16 +167,12 @@ pub struct Store<'a> {
 }
 
 impl<'a> Store<'a> {
-    // How many records there is room for: the shortest slice counts, and never more than 65,535.
+    // How many records there is room for, as `room` says.
     // Every caller asks it before a record is written.
     pub fn room(&self) -> usize
         ensures { result ≡ room_for self.now }
     {
-        MOST_RECORDS
-            .min(self.low.len())
-            .min(self.high.len())
-            .min(self.left.len())
-            .min(self.right.len())
+        room(&*self.low, &*self.high, &*self.left, &*self.right)
     }
 
     // The keys of the records.
