@@ -283,6 +283,27 @@ pub fn make_catalogue(
     Ok(filled(cat))
 }
 
+// The most rows that a table may have in an image of this version, which is said by its number.
+// Any number but 1 allows as many as a catalogue.
+#[tactic(auto, unfolding(crate::specs::Versions::most_rows_in))]
+pub fn most_rows_in(version: u64) -> u64
+    ensures { result ≡ most_rows_in version }
+{
+    if version == 1 {
+        MOST_ROWS_ONE
+    } else {
+        MOST_ROWS
+    }
+}
+
+// Whether an image of these tables carries a version, said by its number, without need (20): it is 2, and no table passes 255 rows.
+pub fn needless(version: u64, cat: Catalogue) -> bool
+    requires { cat.n ≤ most_tables }
+    ensures { result ≡ needless version cat }
+{
+    version == 2 && u64::from(cat.version()) == 1
+}
+
 // The versions of an image.
 #[derive(Clone, Copy, PartialEq, Eq, Debug)]
 pub enum Version {
@@ -296,10 +317,7 @@ impl Version {
     pub fn most_rows(self) -> u64
         ensures { result ≡ most_rows_in (version_number self) }
     {
-        match self {
-            Version::One => MOST_ROWS_ONE,
-            Version::Two => MOST_ROWS,
-        }
+        most_rows_in(u64::from(self))
     }
 
     // Whether an image of these tables carries this version without need (20): it is 2, and no table passes 255 rows.
@@ -307,7 +325,7 @@ impl Version {
         requires { cat.n ≤ most_tables }
         ensures { result ≡ needless (version_number self) cat }
     {
-        matches!((self, cat.version()), (Version::Two, Version::One))
+        needless(u64::from(self), cat)
     }
 }
 
@@ -356,13 +374,52 @@ impl Catalogue {
     }
 }
 
+// N: how many rows all tables have together.
+pub fn total_rows(cat: Catalogue) -> usize
+    requires { Lawful cat most_cells }
+    ensures { result ≡ total cat }
+{
+    cat.rows[..cat.n].iter().map(|rows| *rows as usize).sum()
+}
+
+// Where the cells of a row begin.
+pub fn row_start(cat: Catalogue, table: usize, row: usize) -> usize
+    requires { Lawful cat most_cells × (table < cat.n) × (row ≤ count_of cat table) × (1 ≤ row) }
+    ensures { result ≡ row_start cat table row }
+{
+    cat.places[table] as usize + (row - 1) * width(cat.schemes[table])
+}
+
+// The row at a place in row order.
+pub fn row_at(cat: Catalogue, place: usize) -> Row
+    requires { Lawful cat most_cells × (place < total cat) }
+    ensures { result ≡ row_at cat place }
+{
+    let mut left = place;
+    for table in 0..cat.n {
+        let rows = cat.rows[table] as usize;
+        if left < rows {
+            return Row {
+                table,
+                row: left + 1,
+            };
+        }
+        left -= rows;
+    }
+    // The place is below N, so this is never reached.
+    Row {
+        table: cat.n,
+        row: left + 1,
+    }
+}
+
+// The same of tables whose cells are lent.
 impl Tables<'_> {
     // N: how many rows all tables have together.
     pub fn total_rows(&self) -> usize
         ensures { result ≡ total self.now.catalogue }
     {
-        let cat = self.catalogue;
-        cat.rows[..cat.n].iter().map(|rows| *rows as usize).sum()
+        total_rows(self.catalogue)
     }
 
     // Where the cells of a row begin.
@@ -372,8 +429,7 @@ impl Tables<'_> {
         requires high { row ≤ count_of self.now.catalogue table }
         ensures { result ≡ row_start self.now.catalogue table row }
     {
-        let first = self.catalogue.places[table] as usize;
-        first + (row - 1) * width(self.catalogue.schemes[table])
+        row_start(self.catalogue, table, row)
     }
 
     // The row at a place in row order.
@@ -381,22 +437,6 @@ impl Tables<'_> {
         requires { place < total self.now.catalogue }
         ensures { result ≡ row_at self.now.catalogue place }
     {
-        let cat = self.catalogue;
-        let mut left = place;
-        for table in 0..cat.n {
-            let rows = cat.rows[table] as usize;
-            if left < rows {
-                return Row {
-                    table,
-                    row: left + 1,
-                };
-            }
-            left -= rows;
-        }
-        // The place is below N, so this is never reached.
-        Row {
-            table: cat.n,
-            row: left + 1,
-        }
+        row_at(self.catalogue, place)
     }
 }

@@ -1,28 +1,7 @@
--- `tables::Tables::row_at` meets its contract. Invariant: the whole answer is the answer from the table on, with what is left of the place. Assumes nothing.
-use Rattle.std.proofs.Common.{◌+◌, ◌-◌, ◌≡◌, sym, ◌∙◌, arith}
-use Rattle.tables.proofs.CatalogueLaws.{rows_few, row_here, row-later, row-past}
+-- `tables::Tables::row_at` meets its contract: what is lawful among the lent cells is so among as many as there can be. Assumes nothing.
+use native.Mathlib.Omega.{arith}
+use Rattle.tables.proofs.CatalogueLaws.{lawful-all}
 use Rattle.tables.proofs.Tables.row_at.Goals as goal
 
-pub returns-then-left-rows : goal.returns-then-left-rows
-returns-then-left-rows c =
-    sym (c.loop-table.invariant.1 ∙ row_here _ _ _ _ (omega arith) c.if-left-rows.true)
-
-pub loop-table-preserved : goal.loop-table-preserved
-loop-table-preserved c =
-    let l = c.loop-table in
-    let cat = c.args.self.now.catalogue in
-    let e : cat.n - l.table - 1 ≡ cat.n - (l.table + 1) = omega arith in
-    (omega arith, l.invariant.1 ∙ row-later cat (cat.n - l.table) l.table l.left (omega arith) c.if-left-rows.false ∙ rw e)
-
-pub overflow_add-result-2 : goal.overflow_add-result-2
-overflow_add-result-2 c =
-    let t = c.args.self.now in
-    omega (arith, rows_few t.catalogue _ t.lawful t.catalogue.n (omega arith))
-
-pub returns : goal.returns
-returns c =
-    let l = c.loop-table in
-    let cat = c.args.self.now.catalogue in
-    let z : cat.n - l.table ≡ 0 = omega arith in
-    let e : l.table ≡ cat.n = omega arith in
-    sym ((rw (z, e) at l.invariant.1) ∙ row-past _ _ _)
+pub row_at-requires : goal.row_at-requires
+row_at-requires c = (lawful-all _ _ c.args.self.now.lawful, omega (arith, c.requires))
