@@ -1,4 +1,5 @@
--- Each promise is an equation with a definition, so two outcomes are equal to the same thing; of the stream's, part by part. Assumes nothing.
+-- Each promise is an equation with a definition, so two outcomes are equal to the same thing; of the stream's, part by part. And answers whose readings in
+-- the paper's words are one are one (OneToOne). Assumes nothing.
 use Prim.Native.Nat.{ℕ}
 use native.Mathlib.Omega.{arith}
 use mathlib.Core.Path.{◌≡◌, refl, sym, ap, ap₂, ◌∙◌}
@@ -11,17 +12,18 @@ use Rattle.disjunction.specs.Rule.{Place}
 use Rattle.disjunction.specs.Asked.{Asked, every_set, every_with}
 use Rattle.machine.specs.Machine.{State, Called, Opened}
 use Rattle.stream.specs.declared.StreamRecord.{StreamRecord}
-use Rattle.stream.specs.Answers.{Answer, Set, Finished, Working, Refused, OpenAnswer, StepAnswer, HoldingOpenAnswer, HoldingStepAnswer}
+use Rattle.stream.specs.Answers.{Answer, Set, Finished, Working, Refused, OpenAnswer, StepAnswer, HoldingOpenAnswer, HoldingStepAnswer, open_answer_of, step_answer_of, holding_open_answer_of, holding_step_answer_of}
 use Rattle.stream.specs.declared.HoldingRecord.{HoldingRecord}
 use Rattle.stream.specs.Promises.{held_by, state_with, says_of, called_with, called_of, called_holding, opened_with, opened_holding}
-use Rattle.harbour.specs.Answers.{NextAnswer, with_record, with_holding}
-use Rattle.writer.specs.Written.{Written}
+use Rattle.harbour.specs.Answers.{NextAnswer, next_answer_of, with_record, with_holding}
+use Rattle.writer.specs.Written.{Written, as_written}
 use Rattle.loader.specs.Faults.{Loaded}
-use Rattle.loader.specs.Load.{first_table, tables_codes, cells_after, Loads}
+use Rattle.loader.specs.Load.{loaded_of, first_table, tables_codes, cells_after, Loads}
 use Rattle.writer.specs.Write.{image_of, bytes_after_write, Writes}
 use Rattle.tables.specs.declared.Catalogue.{Catalogue}
 use Rattle.abi.specs.Streams.{Opening, Calling}
-use Rattle.claims.specs.Outcomes.{Words, OneOutcome}
+use Rattle.claims.specs.Outcomes.{Words, OneReading, OneOutcome}
+use Rattle.claims.proofs.OneToOne.{loaded-one, made-one, written-one, opened-one, stepped-one, next-one, opened-holding-one, stepped-holding-one, told-one}
 
 -- ---- the image
 
@@ -213,8 +215,9 @@ calling-one c d = (
   c.result-after ∙ sym d.result-after,
 )
 
-pub determined : OneOutcome
-determined =
+-- What the calls answer in the paper's words.
+readings : OneReading
+readings =
     record {
       load = loads-one;
       make_catalogue = λ m n xs cs r r' c d. c ∙ sym d;
@@ -229,8 +232,38 @@ determined =
           holding-steps-one r r' ks hs ls rs w ks' hs' ls' rs' w' x x' (e ∙ sym e');
       next_holding = λ cat cells s low high left right row b r r' q q' ks hs ls rs w ks' hs' ls' rs' w' x x' e e'.
           holding-nexts-one r r' q q' ks hs ls rs w ks' hs' ls' rs' w' x x' (e ∙ sym e');
-      covers = λ first second r r' e e'. e ∙ sym e';
       check_list = λ cat cells low high r r' e e'. e ∙ sym e';
+    }
+
+-- What they answer: two answers whose readings are one are one (OneToOne).
+pub determined : OneOutcome
+determined =
+    record {
+      load = λ s lent r r' after after' l l'. let q = loads-one s lent (loaded_of r) (loaded_of r') after after' l l' in (loaded-one r r' q.0, q.1);
+      make_catalogue = λ m n xs cs r r' c d. made-one r r' (c ∙ sym d);
+      write = λ cat cells lent r r' after after' l l'.
+          let q = writes_one cat cells lent (as_written r) (as_written r') after after' l l' in (written-one r r' q.0, q.1);
+      «open» = λ cat cells low high left right r r' ks hs ls rs ks' hs' ls' rs' e e'.
+          let q = opens_one every_set every_set (open_answer_of r) (open_answer_of r') ks hs ls rs ks' hs' ls' rs' (e ∙ sym e') in
+          (opened-one r r' q.0, q.1, q.2, q.3, q.4);
+      step = λ cat cells s low high left right row b r r' ks hs ls rs w ks' hs' ls' rs' w' x x' e e'.
+          let q = steps-one every_set every_set (step_answer_of r) (step_answer_of r') ks hs ls rs w ks' hs' ls' rs' w' x x' (e ∙ sym e') in
+          (stepped-one r r' q.0, q.1, q.2, q.3, q.4, q.5);
+      next = λ cat cells s low high left right row b r r' q q' ks hs ls rs w ks' hs' ls' rs' w' x x' e e'.
+          let p = nexts-one (next_answer_of r) (next_answer_of r') q q' ks hs ls rs w ks' hs' ls' rs' w' x x' (e ∙ sym e') in
+          (next-one r r' p.0, p.1, p.2, p.3, p.4, p.5, p.6);
+      open_holding = λ cat cells t n low high left right r r' ks hs ls rs ks' hs' ls' rs' e e'.
+          let q = holding-opens-one (holding_open_answer_of r) (holding_open_answer_of r') ks hs ls rs ks' hs' ls' rs' (e ∙ sym e') in
+          (opened-holding-one r r' q.0, q.1, q.2, q.3, q.4);
+      step_holding = λ cat cells s low high left right row b r r' ks hs ls rs w ks' hs' ls' rs' w' x x' e e'.
+          let q = holding-steps-one (holding_step_answer_of r) (holding_step_answer_of r') ks hs ls rs w ks' hs' ls' rs' w' x x' (e ∙ sym e') in
+          (stepped-holding-one r r' q.0, q.1, q.2, q.3, q.4, q.5);
+      next_holding = λ cat cells s low high left right row b r r' q q' ks hs ls rs w ks' hs' ls' rs' w' x x' e e'.
+          let p = holding-nexts-one (next_answer_of r) (next_answer_of r') q q' ks hs ls rs w ks' hs' ls' rs' w' x x' (e ∙ sym e') in
+          (next-one r r' p.0, p.1, p.2, p.3, p.4, p.5, p.6);
+      covers = λ first second r r' e e'. e ∙ sym e';
+      check_list = λ cat cells low high r r' e e'. told-one r r' (e ∙ sym e');
+      readings = readings;
       check = λ s r r' e e'. e ∙ sym e';
       harbour_load = λ image cells words looked r r' cs ws ls cs' ws' ls' c d.
           (c.answer ∙ sym d.answer, c.cells-after ∙ sym d.cells-after, c.words-after ∙ sym d.words-after, c.looked-after ∙ sym d.looked-after);

@@ -15,6 +15,7 @@ pub mod Trimmed
 pub mod Refused
 pub mod Frauds
 pub mod Edged
+pub mod OneToOne
 pub mod Determined
 pub mod NumberExactly
 pub mod LoadSays

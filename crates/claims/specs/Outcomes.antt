@@ -1,24 +1,30 @@
 -- "Show that no input admits two outcomes": for each public call, whatever meets its promise twice has met it with the same answer, the same counts,
 -- the same record and the same words in every lent slice. Proved in proofs/Determined. Assumes nothing.
-use Rattle.std.specs.Prelude.{ℕ, ◌^◌, ◌<◌, ◌≡◌, Bool, List}
+use Rattle.std.specs.Prelude.{ℕ, ◌^◌, ◌<◌, ◌≡◌, Bool, List, Result}
+use Rattle.refusals.specs.declared.Refusal.{Refusal}
 use Rattle.keys.specs.TwoWords.{bits_per_word}
 use Rattle.keys.specs.declared.Key.{Key}
 use Rattle.tables.specs.declared.Catalogue.{Catalogue}
-use Rattle.tables.specs.Checks.{Made}
+use Rattle.tables.specs.Checks.{Made, made_of}
 use Rattle.tables.specs.Checks.{Makes}
-use Rattle.writer.specs.Written.{Written}
+use Rattle.writer.specs.Written.{Written, as_written}
+use Rattle.loader.specs.declared.Fault.{Fault}
 use Rattle.loader.specs.Faults.{Loaded}
-use Rattle.loader.specs.Load.{Loads}
+use Rattle.loader.specs.Load.{loaded_of, Loads}
 use Rattle.writer.specs.Write.{Writes}
 use Rattle.door.specs.Door.{Checks}
 use Rattle.padding.specs.Covering.{Covers}
 use Rattle.stream.specs.declared.StreamRecord.{StreamRecord}
-use Rattle.stream.specs.Answers.{OpenAnswer, StepAnswer, HoldingOpenAnswer, HoldingStepAnswer}
+use Rattle.stream.specs.declared.Opened.{Opened}
+use Rattle.stream.specs.declared.Stepped.{Stepped}
+use Rattle.stream.specs.Answers.{OpenAnswer, StepAnswer, HoldingOpenAnswer, HoldingStepAnswer, key_in, open_answer_of, step_answer_of, holding_open_answer_of, holding_step_answer_of}
 use Rattle.stream.specs.declared.HoldingRecord.{HoldingRecord}
 use Rattle.stream.specs.Promises.{Opens, Steps, OpensHolding, StepsHolding}
-use Rattle.hub.specs.Answers.{ListVerdict}
+use Rattle.hub.specs.declared.ListVerdict as list
+use Rattle.hub.specs.Answers.{ListVerdict, told_of}
 use Rattle.hub.specs.Promises.{ChecksList}
-use Rattle.harbour.specs.Answers.{NextAnswer, Nexts, NextsHolding}
+use Rattle.harbour.specs.declared.NextAnswer as thin
+use Rattle.harbour.specs.Answers.{NextAnswer, next_answer_of, Nexts, NextsHolding}
 use Rattle.abi.specs.Calls.{LoadCall, MakeCall, WriteCall, CoversCall}
 use Rattle.abi.specs.Lists.{ListCall}
 use Rattle.abi.specs.Streams.{OpenCall, NextCall, OpenHoldingCall, NextHoldingCall}
@@ -27,8 +33,8 @@ use Rattle.abi.specs.Streams.{OpenCall, NextCall, OpenHoldingCall, NextHoldingCa
 abbrev pub Words : Key → Type 0
 Words key = (key.low < 2 ^ bits_per_word) × (key.high < 2 ^ bits_per_word)
 
--- One field for each public call: two outcomes that meet its promise are one.
-pub record OneOutcome : Type 0 where
+-- Of what the calls answer in the paper's words, where a refusal is its number: two such answers that meet a promise are one.
+pub record OneReading : Type 0 where
   pub load : (s lent : List ℕ) (r r' : Loaded) (after after' : List ℕ) → Loads s lent r after → Loads s lent r' after' → (r ≡ r') × (after ≡ after')
   pub make_catalogue : (m n : ℕ) (schemes rows : List ℕ) (r r' : Made) → Makes m n schemes rows r → Makes m n schemes rows r' → r ≡ r'
   pub write : (cat : Catalogue) (cells lent : List ℕ) (r r' : Written) (after after' : List ℕ)
@@ -56,9 +62,51 @@ pub record OneOutcome : Type 0 where
       (r r' : NextAnswer) (q q' : HoldingRecord) (ks hs ls rs w ks' hs' ls' rs' w' : List ℕ) → Words r.key → Words r'.key
       → NextsHolding cat cells low high left right s b row r q ks hs ls rs w → NextsHolding cat cells low high left right s b row r' q' ks' hs' ls' rs' w'
       → (r ≡ r') × (q ≡ q') × (ks ≡ ks') × (hs ≡ hs') × (ls ≡ ls') × (rs ≡ rs') × (w ≡ w')
-  pub covers : (first second : List ℕ) (r r' : Bool) → Covers first second r → Covers first second r' → r ≡ r'
   pub check_list : (cat : Catalogue) (cells low high : List ℕ) (r r' : ListVerdict)
       → ChecksList cat cells low high r → ChecksList cat cells low high r' → r ≡ r'
+
+-- One field for each public call: two outcomes that meet its promise are one. Those of `harbour` that answer with a type of their own are spoken of by that
+-- very type, as the contract reads it: its answer, and not the reading alone, is the same.
+pub record OneOutcome : Type 0 where
+  pub load : (s lent : List ℕ) (r r' : Result Catalogue Fault) (after after' : List ℕ)
+      → Loads s lent (loaded_of r) after → Loads s lent (loaded_of r') after' → (r ≡ r') × (after ≡ after')
+  pub make_catalogue : (m n : ℕ) (schemes rows : List ℕ) (r r' : Result Catalogue Refusal)
+      → Makes m n schemes rows (made_of r) → Makes m n schemes rows (made_of r') → r ≡ r'
+  pub write : (cat : Catalogue) (cells lent : List ℕ) (r r' : Result ℕ Refusal) (after after' : List ℕ)
+      → Writes cat cells lent (as_written r) after → Writes cat cells lent (as_written r') after' → (r ≡ r') × (after ≡ after')
+  pub «open» : (cat : Catalogue) (cells low high left right : List ℕ) (r r' : Result (Opened StreamRecord) Refusal) (ks hs ls rs ks' hs' ls' rs' : List ℕ)
+      → Opens cat cells low high left right (open_answer_of r) ks hs ls rs → Opens cat cells low high left right (open_answer_of r') ks' hs' ls' rs'
+      → (r ≡ r') × (ks ≡ ks') × (hs ≡ hs') × (ls ≡ ls') × (rs ≡ rs')
+  pub step : (cat : Catalogue) (cells : List ℕ) (s : StreamRecord) (low high left right row : List ℕ) (b : ℕ)
+      (r r' : Stepped StreamRecord) (ks hs ls rs w ks' hs' ls' rs' w' : List ℕ) → Words (key_in r.answer) → Words (key_in r'.answer)
+      → Steps cat cells low high left right s b row (step_answer_of r) ks hs ls rs w
+      → Steps cat cells low high left right s b row (step_answer_of r') ks' hs' ls' rs' w'
+      → (r ≡ r') × (ks ≡ ks') × (hs ≡ hs') × (ls ≡ ls') × (rs ≡ rs') × (w ≡ w')
+  pub next : (cat : Catalogue) (cells : List ℕ) (s : StreamRecord) (low high left right row : List ℕ) (b : ℕ)
+      (r r' : thin.NextAnswer) (q q' : StreamRecord) (ks hs ls rs w ks' hs' ls' rs' w' : List ℕ) → Words (key_in r.answer) → Words (key_in r'.answer)
+      → Nexts cat cells low high left right s b row (next_answer_of r) q ks hs ls rs w
+      → Nexts cat cells low high left right s b row (next_answer_of r') q' ks' hs' ls' rs' w'
+      → (r ≡ r') × (q ≡ q') × (ks ≡ ks') × (hs ≡ hs') × (ls ≡ ls') × (rs ≡ rs') × (w ≡ w')
+  pub open_holding : (cat : Catalogue) (cells : List ℕ) (table row : ℕ) (low high left right : List ℕ)
+      (r r' : Result (Opened HoldingRecord) Refusal) (ks hs ls rs ks' hs' ls' rs' : List ℕ)
+      → OpensHolding cat cells low high left right table row (holding_open_answer_of r) ks hs ls rs
+      → OpensHolding cat cells low high left right table row (holding_open_answer_of r') ks' hs' ls' rs'
+      → (r ≡ r') × (ks ≡ ks') × (hs ≡ hs') × (ls ≡ ls') × (rs ≡ rs')
+  pub step_holding : (cat : Catalogue) (cells : List ℕ) (s : HoldingRecord) (low high left right row : List ℕ) (b : ℕ)
+      (r r' : Stepped HoldingRecord) (ks hs ls rs w ks' hs' ls' rs' w' : List ℕ) → Words (key_in r.answer) → Words (key_in r'.answer)
+      → StepsHolding cat cells low high left right s b row (holding_step_answer_of r) ks hs ls rs w
+      → StepsHolding cat cells low high left right s b row (holding_step_answer_of r') ks' hs' ls' rs' w'
+      → (r ≡ r') × (ks ≡ ks') × (hs ≡ hs') × (ls ≡ ls') × (rs ≡ rs') × (w ≡ w')
+  pub next_holding : (cat : Catalogue) (cells : List ℕ) (s : HoldingRecord) (low high left right row : List ℕ) (b : ℕ)
+      (r r' : thin.NextAnswer) (q q' : HoldingRecord) (ks hs ls rs w ks' hs' ls' rs' w' : List ℕ) → Words (key_in r.answer) → Words (key_in r'.answer)
+      → NextsHolding cat cells low high left right s b row (next_answer_of r) q ks hs ls rs w
+      → NextsHolding cat cells low high left right s b row (next_answer_of r') q' ks' hs' ls' rs' w'
+      → (r ≡ r') × (q ≡ q') × (ks ≡ ks') × (hs ≡ hs') × (ls ≡ ls') × (rs ≡ rs') × (w ≡ w')
+  pub covers : (first second : List ℕ) (r r' : Bool) → Covers first second r → Covers first second r' → r ≡ r'
+  pub check_list : (cat : Catalogue) (cells low high : List ℕ) (r r' : Result list.ListVerdict Refusal)
+      → ChecksList cat cells low high (told_of r) → ChecksList cat cells low high (told_of r') → r ≡ r'
+  -- And the readings of these.
+  pub readings : OneReading
   pub check : (s : List ℕ) (r r' : ℕ) → Checks s r → Checks s r' → r ≡ r'
   -- The calls for C.
   pub harbour_load : (image cells words looked : List ℕ) (r r' : ℕ) (cs ws ls cs' ws' ls' : List ℕ)
