@@ -1,5 +1,5 @@
--- Each promise is an equation with a definition, so two outcomes are equal to the same thing; of the stream's, part by part. And answers whose readings in
--- the paper's words are one are one (OneToOne). Assumes nothing.
+-- Each promise is an equation with a definition, so two outcomes are equal to the same thing; of the stream's, part by part. And two of
+-- the code's answers that are one as the paper has them are one (OneToOne). Assumes nothing.
 use Prim.Native.Nat.{ℕ}
 use native.Mathlib.Omega.{arith}
 use mathlib.Core.Path.{◌≡◌, refl, sym, ap, ap₂, ◌∙◌}
@@ -215,7 +215,7 @@ calling-one c d = (
   c.result-after ∙ sym d.result-after,
 )
 
--- What the calls answer in the paper's words.
+-- Of the answers as the paper has them.
 readings : OneReading
 readings =
     record {
@@ -235,7 +235,7 @@ readings =
       check_list = λ cat cells low high r r' e e'. e ∙ sym e';
     }
 
--- What they answer: two answers whose readings are one are one (OneToOne).
+-- Of the code's answers: two that are one as the paper has them are one (OneToOne).
 pub determined : OneOutcome
 determined =
     record {
@@ -263,7 +263,6 @@ determined =
           (next-one r r' p.0, p.1, p.2, p.3, p.4, p.5, p.6);
       covers = λ first second r r' e e'. e ∙ sym e';
       check_list = λ cat cells low high r r' e e'. told-one r r' (e ∙ sym e');
-      readings = readings;
       check = λ s r r' e e'. e ∙ sym e';
       harbour_load = λ image cells words looked r r' cs ws ls cs' ws' ls' c d.
           (c.answer ∙ sym d.answer, c.cells-after ∙ sym d.cells-after, c.words-after ∙ sym d.words-after, c.looked-after ∙ sym d.looked-after);
@@ -275,4 +274,5 @@ determined =
       harbour_next_holding = λ catalogue cells low high left right words b row result r r' ks hs ls rs ws w res ks' hs' ls' rs' ws' w' res' c d. calling-one c d;
       harbour_covers = λ first second r r' c d. c ∙ sym d;
       harbour_check_list = λ catalogue cells low high result r r' w w' c d. (c.answer ∙ sym d.answer, c.result-after ∙ sym d.result-after);
+      readings = readings;
     }

@@ -33,7 +33,7 @@ use Rattle.abi.specs.Streams.{OpenCall, NextCall, OpenHoldingCall, NextHoldingCa
 abbrev pub Words : Key → Type 0
 Words key = (key.low < 2 ^ bits_per_word) × (key.high < 2 ^ bits_per_word)
 
--- Of what the calls answer in the paper's words, where a refusal is its number: two such answers that meet a promise are one.
+-- Of the answers of `harbour`'s calls as the paper has them, where a refusal is its number: two that meet a promise are one.
 pub record OneReading : Type 0 where
   pub load : (s lent : List ℕ) (r r' : Loaded) (after after' : List ℕ) → Loads s lent r after → Loads s lent r' after' → (r ≡ r') × (after ≡ after')
   pub make_catalogue : (m n : ℕ) (schemes rows : List ℕ) (r r' : Made) → Makes m n schemes rows r → Makes m n schemes rows r' → r ≡ r'
@@ -65,8 +65,8 @@ pub record OneReading : Type 0 where
   pub check_list : (cat : Catalogue) (cells low high : List ℕ) (r r' : ListVerdict)
       → ChecksList cat cells low high r → ChecksList cat cells low high r' → r ≡ r'
 
--- One field for each public call: two outcomes that meet its promise are one. Those of `harbour` that answer with a type of their own are spoken of by that
--- very type, as the contract reads it: its answer, and not the reading alone, is the same.
+-- One field for each public call: two outcomes that meet its promise are one. The answers of `harbour`'s calls are here those that the code gives; by a map
+-- each contract says what they are as the paper has them.
 pub record OneOutcome : Type 0 where
   pub load : (s lent : List ℕ) (r r' : Result Catalogue Fault) (after after' : List ℕ)
       → Loads s lent (loaded_of r) after → Loads s lent (loaded_of r') after' → (r ≡ r') × (after ≡ after')
@@ -105,8 +105,6 @@ pub record OneOutcome : Type 0 where
   pub covers : (first second : List ℕ) (r r' : Bool) → Covers first second r → Covers first second r' → r ≡ r'
   pub check_list : (cat : Catalogue) (cells low high : List ℕ) (r r' : Result list.ListVerdict Refusal)
       → ChecksList cat cells low high (told_of r) → ChecksList cat cells low high (told_of r') → r ≡ r'
-  -- And the readings of these.
-  pub readings : OneReading
   pub check : (s : List ℕ) (r r' : ℕ) → Checks s r → Checks s r' → r ≡ r'
   -- The calls for C.
   pub harbour_load : (image cells words looked : List ℕ) (r r' : ℕ) (cs ws ls cs' ws' ls' : List ℕ)
@@ -135,3 +133,5 @@ pub record OneOutcome : Type 0 where
   pub harbour_covers : (first second : List ℕ) (r r' : ℕ) → CoversCall first second r → CoversCall first second r' → r ≡ r'
   pub harbour_check_list : (catalogue cells low high result : List ℕ) (r r' : ℕ) (w w' : List ℕ)
       → ListCall catalogue cells low high result r w → ListCall catalogue cells low high result r' w' → (r ≡ r') × (w ≡ w')
+  -- The calls of `harbour`, once more as the paper has them.
+  pub readings : OneReading
