@@ -57,6 +57,8 @@ pub fn load(image: &[u8], cells: &mut [u64]) -> Result<Catalogue, Fault>
 }
 
 // The number at a place, or its own refusal there.
+// Inlined as `read` is, so that a fault is made only where there is one.
+#[inline(always)]
 fn number_at(s: &[u8], at: usize) -> Result<Number, Fault>
     ensures { field_of result ≡ number_at s.now at }
 {

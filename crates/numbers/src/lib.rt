@@ -29,6 +29,8 @@ pub struct NumberFault {
 
 // Reads the number that starts at a place, which may lie behind the slice.
 // It takes the shortest form alone, so that an image has one form only. A fault tells an end (1), a padded number (2) and an endless one (17) apart.
+// Inlined wherever numbers are read, since its answer would else pass through memory, number by number.
+#[inline(always)]
 pub fn read(s: &[u8], at: usize) -> Result<Number, NumberFault>
     ensures { reading_of result ≡ decode s.now at }
 {
