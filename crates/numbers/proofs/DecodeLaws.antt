@@ -1,6 +1,6 @@
 -- The equations of decode_in, one for each way that the reader goes, and the bounds of its weight. Assumes nothing.
 use Prim.Native.Nat.{ℕ, zero, suc, ◌+◌, ◌-◌, ◌*◌, ◌^◌, ◌<◌, ◌≤◌}
-use native.Mathlib.Nat.{pow-suc, pow-le-pow_right, one-le-pow, mul-le-mul_right}
+use native.Mathlib.Nat.{pow-suc, pow-le-pow_right, one-le-pow, mul-le-mul_left, mul-le-mul_right, mul_assoc, mul_comm}
 use native.Mathlib.Omega.{arith}
 use native.Mathlib.Numerals.{sub-one}
 use mathlib.Core.Path.{◌≡◌, refl}
@@ -45,9 +45,20 @@ no_number o k c r n p q = absurd (let z : ◌≡◌ {A = ℕ} 0 1 = cc in omega 
 pub pos128 : (f : ℕ) → 1 ≤ 128 ^ f
 pos128 f = one-le-pow f 128 (omega arith)
 
+-- a weight with room for f groups more
+pub room : (f w : ℕ) → 0 < f → w * 128 ^ f ≤ 2 ^ 63 → w * 128 ≤ 2 ^ 63
+room zero w p h = absurd (omega arith)
+room (suc f) w p h =
+    let a : 128 ≤ 128 ^ suc f = omega (arith, pow-suc 128 f, pos128 f) in
+    omega (arith, mul-le-mul_left w a)
+
+pub less-room : (f w : ℕ) → 0 < f → w * 128 ^ f ≤ 2 ^ 63 → w * 128 * 128 ^ (f - 1) ≤ 2 ^ 63
+less-room zero w p h = absurd (omega arith)
+less-room (suc f) w p h = rw (sub-one (suc f), mul_assoc, mul_comm 128 (128 ^ f), ← pow-suc 128 f) h
+
 -- the weight of a group that is allowed, with the next
-pub room : (t w : ℕ) → t < most_bytes → w ≡ 128 ^ t → w * 128 ≤ 2 ^ 63
-room t w h e =
+pub group-room : (t w : ℕ) → t < most_bytes → w ≡ 128 ^ t → w * 128 ≤ 2 ^ 63
+group-room t w h e =
     let p : 0 < 128 = omega arith in
     let q : suc t ≤ most_bytes = omega arith in
     omega (arith, e, pow-suc 128 t, pow-le-pow_right p q)

@@ -8,7 +8,7 @@ use borrow.Author.Tests.{le-ltb, ltb-true}
 use Rattle.std.proofs.lemmas.Bool.{ne_eqb}
 use Rattle.std.proofs.lemmas.List.{get_or_read}
 use Rattle.numbers.specs.Numbers.{most_bytes, decode}
-use Rattle.numbers.proofs.DecodeLaws.{decode-zero, decode-last, decode-more, room, heavier, group}
+use Rattle.numbers.proofs.DecodeLaws.{decode-zero, decode-last, decode-more, group-room, heavier, group}
 use Rattle.numbers.proofs.read.Goals.{In-Some, Joined-else-t-gt0}
 use Rattle.numbers.proofs.read.Goals as goal
 
@@ -26,7 +26,7 @@ looked c =
     let h = c.in-Some.ensures.lookup in
     let in-s = ltb-true _ _ (sym h.0) in
     let e : get_or c.args.s.now i 0 ≡ c.in-Some.field-0.now = sym (get_or_read c.args.s.now i _ in-s h.1 0) in
-    record { within = in-s; byte = e; small = omega (arith, e, c.type_inv.s i); room = room l.t l.weight (omega arith) l.invariant.weighs }
+    record { within = in-s; byte = e; small = omega (arith, e, c.type_inv.s i); room = group-room l.t l.weight (omega arith) l.invariant.weighs }
 
 -- a group that ends a number is the first or not 0
 ends : (t w b : ℕ) → w ≡ 128 ^ t → ((0 < t) × (b ≡ 0 → ⊥)) ⊎ (t ≤ 0) → (ltb 1 w && eqb b 0) ≡ false
