@@ -54,7 +54,7 @@ pub enum Fielded {
 
 // A field's code and the place behind it.
 #[derive(Clone, Copy)]
-struct CodeAt {
+pub struct CodeAt {
     pub code: u64,
     pub next: usize,
 }
@@ -167,7 +167,7 @@ pub fn field_at(text: &[u8], at: usize) -> Fielded
 // The code of the field that begins at a place, and the place behind it.
 // For lines that were read before and found good: they are read again to be compared, and to fill the cells.
 #[tactic(auto, unfolding(crate::specs::Fields::code_of, crate::specs::Fields::next_of))]
-fn code_at(text: &[u8], at: usize) -> CodeAt
+pub fn code_at(text: &[u8], at: usize) -> CodeAt
     ensures { Reads text.now at result }
 {
     match field_at(text, at) {
