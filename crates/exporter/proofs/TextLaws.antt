@@ -1,6 +1,6 @@
 -- The text of a table, one law for each way that code goes, and how long it is at most. Assumes nothing.
 use Prim.Native.Nat.{ℕ, zero, suc, ◌+◌, ◌-◌, ◌*◌, ◌/◌, ◌%◌, ◌^◌, ◌≤◌, ◌<◌}
-use native.Mathlib.Nat.{suc-mul, min-le_left, add-div_left, div-eq_of_lt, div-div-eq-div-mul, pow-suc}
+use native.Mathlib.Nat.{suc-mul, mul-le-mul_left, mul_left_comm, min-le_left, add-div_left, div-eq_of_lt, div-div-eq-div-mul, pow-suc}
 use native.Mathlib.Numerals.{add-one, sub-one}
 use native.Mathlib.Omega.{arith}
 use mathlib.Core.Path.{◌≡◌, refl, sym, ap, ◌∙◌}
@@ -95,12 +95,17 @@ unfolding line_text
 line-few [] = omega arith
 line-few (c ∷ codes) = omega (arith, line-sum (c ∷ codes) (omega arith), fields-few (c ∷ codes))
 
--- A row has a cell, so its line takes at most 23 bytes a cell.
-pub lines-few : (k w : ℕ) (cells : List ℕ) → 0 < w → length (lines_text (cut k w cells)) ≤ 23 * (k * w)
+pub lines-few : (k w : ℕ) (cells : List ℕ) → length (lines_text (cut k w cells)) ≤ k * (21 * w + 2)
 unfolding lines_text cut
-lines-few zero w cells z = omega arith
-lines-few (suc k) w cells z =
-    omega (arith, length-append (line_text (take w cells)) (lines_text (cut k w (drop w cells))), line-few (take w cells), length-take w cells, min-le_left w (length cells), lines-few k w (drop w cells) z, suc-mul k w)
+lines-few zero w cells = omega arith
+lines-few (suc k) w cells =
+    omega (arith, length-append (line_text (take w cells)) (lines_text (cut k w (drop w cells))), line-few (take w cells), length-take w cells, min-le_left w (length cells), lines-few k w (drop w cells), suc-mul k (21 * w + 2))
+
+-- A row has a cell, so its line takes at most 23 bytes a cell.
+pub lines-by_cell : (k w : ℕ) (cells : List ℕ) → 0 < w → length (lines_text (cut k w cells)) ≤ 23 * (k * w)
+lines-by_cell k w cells z =
+    let each : 21 * w + 2 ≤ 23 * w = omega arith in
+    omega (arith, lines-few k w cells, mul-le-mul_left k each, mul_left_comm 23 k w)
 
 -- ---- the header's codes
 

@@ -1,6 +1,7 @@
 // A table that meets no refusal.
-ghost use Rattle.std.specs.Prelude.{◌≡◌, ◌*◌, ◌^◌, ◌≤◌, ◌<◌, length, take, IfOk};
+ghost use Rattle.std.specs.Prelude.{◌≡◌, ◌*◌, ◌^◌, ◌≤◌, ◌<◌, length, take, replicate, IfOk};
 ghost use Rattle.std.specs.Int.Count.{ones};
+ghost use Rattle.laws.specs.Lists.{put};
 ghost use Rattle.refusals.specs.Refusals.{fault_in};
 ghost use Rattle.tables.specs.Sizes.{most_attributes, most_cells};
 ghost use Rattle.text.specs.Writing.{attribute_codes, write_fault};
@@ -49,7 +50,8 @@ impl<'a> Table<'a> {
 
     // The header's codes, in front of zeros: the attributes of the scheme, each by its number plus 1, as a row's cells are.
     pub fn header(&self) -> [u64; 64]
-        ensures { take (ones self.now.scheme) result ≡ attribute_codes self.now.m 0 self.now.scheme }
+        ensures codes { take (ones self.now.scheme) result ≡ attribute_codes self.now.m 0 self.now.scheme }
+        ensures whole { result ≡ put (attribute_codes self.now.m 0 self.now.scheme) (replicate 64 0) }
     {
         let mut codes = [0; 64];
         let mut k = 0;

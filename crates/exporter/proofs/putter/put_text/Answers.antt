@@ -15,7 +15,7 @@ use Rattle.exporter.proofs.putter.put_text.Goals as goal
 
 -- The header's codes, in front of the rest.
 head : (c : After-header-head) → take c.width-width.result c.header-head.result ≡ attribute_codes c.args.table.now.m 0 c.args.table.now.scheme
-head c = rw c.width-width.ensures c.header-head.ensures
+head c = rw c.width-width.ensures c.header-head.ensures.codes
 
 pub put_line-requires : goal.put_line-requires
 put_line-requires c =

@@ -7,7 +7,7 @@ use mathlib.Core.List.{List}
 use lib.ListN.{length}
 use Rattle.std.specs.Slice.Iter.{chunks_exact_rest}
 use Rattle.text.specs.Writing.{line_text}
-use Rattle.exporter.proofs.TextLaws.{lines_in, lines-length, lines-end, lines-few}
+use Rattle.exporter.proofs.TextLaws.{lines_in, lines-length, lines-end, lines-by_cell}
 use Rattle.exporter.proofs.sizer.rows_length.Goals.{In-Some}
 use Rattle.exporter.proofs.sizer.rows_length.Goals as goal
 
@@ -23,7 +23,7 @@ here c =
 pub overflow_add-sum : goal.overflow_add-sum
 overflow_add-sum c =
     let a = c.args in
-    let few = lines-few (length a.cells.now / a.width) a.width a.cells.now c.requires.0 in
+    let few = lines-by_cell (length a.cells.now / a.width) a.width a.cells.now c.requires.0 in
     omega (arith, here (goal.at.overflow_add-sum c).In-Some, c.line_length-sum.ensures, few, div-mul-le_self (length a.cells.now) a.width, c.requires.1)
 
 pub loop-row-preserved : goal.loop-row-preserved

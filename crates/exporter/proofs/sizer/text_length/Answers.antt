@@ -6,14 +6,14 @@ use mathlib.Core.Path.{◌≡◌, ◌∙◌}
 use lib.ListN.{length, take}
 use lib.Count.{ones}
 use Rattle.text.specs.Writing.{attribute_codes, line_text}
-use Rattle.exporter.proofs.TextLaws.{lines_in, line-few, lines-few}
+use Rattle.exporter.proofs.TextLaws.{lines_in, line-few, lines-by_cell}
 use Rattle.exporter.proofs.WriteLaws.{ones-some, codes-some, codes-few, text-length}
 use Rattle.exporter.proofs.sizer.text_length.Goals.{After-header-head, After-rows_length}
 use Rattle.exporter.proofs.sizer.text_length.Goals as goal
 
 -- The header's codes, in front of the rest.
 head : (c : After-header-head) → take c.width-width.result c.header-head.result ≡ attribute_codes c.args.table.now.m 0 c.args.table.now.scheme
-head c = rw c.width-width.ensures c.header-head.ensures
+head c = rw c.width-width.ensures c.header-head.ensures.codes
 
 pub line_length-requires : goal.line_length-requires
 line_length-requires c =
@@ -43,7 +43,7 @@ overflow_add-result c =
       both (goal.at.overflow_add-result c).After-rows_length,
       line-few (attribute_codes t.m 0 t.scheme),
       codes-few t.m t.scheme t.attributes t.low_scheme,
-      lines-few k w t.cells.now (ones-some t.m t.scheme t.some_scheme t.low_scheme),
+      lines-by_cell k w t.cells.now (ones-some t.m t.scheme t.some_scheme t.low_scheme),
       div-mul-le_self (length t.cells.now) w,
       t.few,
     )

@@ -1,12 +1,13 @@
--- `exporter::table::Table::header` meets its contract. Invariant: the codes put and those of the attributes that are left are all. Assumes nothing.
+-- `exporter::table::Table::header` meets its contract. Invariant: the attributes that are left, from the cursor on, make the whole. Assumes nothing.
 use native.Mathlib.Omega.{arith}
-use Prim.Native.Nat.{◌+◌, ◌-◌, ◌/◌, ◌^◌}
-use mathlib.Core.Path.{◌≡◌, refl, sym, ap, ◌∙◌}
-use mathlib.Core.List.{append_assoc, append-nil}
-use lib.ListN.{length, take, length-set}
-use lib.Seq.{length-take-le}
+use Prim.Native.Nat.{ℕ, ◌+◌, ◌-◌, ◌/◌, ◌^◌, ◌≤◌}
+use mathlib.Core.Path.{◌≡◌, sym, ◌∙◌}
+use mathlib.Core.List.{List}
+use lib.ListN.{length, drop, replicate, length-set}
+use lib.Seq.{take_at}
 use lib.Count.{ones}
-use Rattle.laws.proofs.ListLaws.{take_next}
+use Rattle.laws.specs.Lists.{put, over}
+use Rattle.laws.proofs.ListLaws.{put-cons, put-nil}
 use Rattle.text.specs.Writing.{attribute_codes}
 use Rattle.text.proofs.Headers.{header-width}
 use Rattle.exporter.proofs.TextLaws.{attributes-none, attribute-set, attribute-clear}
@@ -23,24 +24,31 @@ loop-a-preserved c =
           rw (w.codes-is, w.k-is) (record {
             few = omega arith;
             room = length-set l.codes l.k (l.a + 1) ∙ h.room;
-            put =
-                rw (take_next l.codes _ l.k (l.a + 1) (omega arith) refl, append_assoc)
-                (rw (← attribute-set t.m l.a t.scheme c.loop-a-test.true w.if-self-a-eq1.true) h.put);
+            put = h.put ∙ rw (attribute-set t.m l.a t.scheme c.loop-a-test.true w.if-self-a-eq1.true) (put-cons l.codes l.k (l.a + 1) _ (omega (arith, h, t.attributes, c.loop-a-test.true)));
           })
       | else-self-a-eq1 w ↦
           rw (w.codes-is, w.k-is) (record {
             few = omega arith;
             room = h.room;
-            put = rw (← attribute-clear t.m l.a t.scheme c.loop-a-test.true (λ e. w.if-self-a-eq1.false e)) h.put;
+            put = h.put ∙ rw (attribute-clear t.m l.a t.scheme c.loop-a-test.true (λ e. w.if-self-a-eq1.false e));
           })
     ]
 
-pub returns : goal.returns
-returns c =
+-- Where no attribute is left, the array is the codes in front of zeros.
+done : (m x k a : ℕ) (codes : List ℕ) → m ≤ a → put (attribute_codes m 0 x) (replicate 64 0) ≡ over k (attribute_codes (m - a) a (x / 2 ^ a)) codes
+    → codes ≡ put (attribute_codes m 0 x) (replicate 64 0)
+done m x k a codes h e = sym (e ∙ rw (attributes-none (m - a) a (x / 2 ^ a) (omega arith)) (put-nil codes k))
+
+pub returns-clause-codes : goal.returns-clause-codes
+returns-clause-codes c =
     let l = c.loop-a in
     let t = c.args.self.now in
-    let all : take l.k l.codes ≡ attribute_codes t.m 0 t.scheme =
-    sym (append-nil (take l.k l.codes)) ∙ (rw (attributes-none (t.m - l.a) l.a (t.scheme / 2 ^ l.a) (omega (arith, c.loop-a-test.false))) at l.invariant.put) in
-    let k : ones t.scheme ≡ l.k =
-    sym (header-width t.m 0 t.scheme t.low_scheme) ∙ sym (ap length all) ∙ length-take-le l.k l.codes (omega (arith, l.invariant, t.attributes)) in
-    rw k all
+    let bs = attribute_codes t.m 0 t.scheme in
+    rw (done t.m t.scheme l.k l.a l.codes (omega (arith, c.loop-a-test.false)) l.invariant.put)
+    (take_at bs (drop (length bs) (replicate 64 0)) (ones t.scheme) (header-width t.m 0 t.scheme t.low_scheme))
+
+pub returns-clause-whole : goal.returns-clause-whole
+returns-clause-whole c =
+    let l = c.loop-a in
+    let t = c.args.self.now in
+    done t.m t.scheme l.k l.a l.codes (omega (arith, c.loop-a-test.false)) l.invariant.put
