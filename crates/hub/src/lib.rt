@@ -48,8 +48,8 @@ fn records_of(keys: usize) -> usize
 // Whether the trial of the set's own row in table t gives the set back; where it has no row of t, nothing is tried.
 // A set that comes back for each of its rows is maximal, and no other does.
 fn gives_back(layout: &Layout<'_>, key: Key, t: usize) -> bool
-    requires { Named layout.now.tables.catalogue (number_of key) × (t < layout.now.tables.catalogue.n) }
-    ensures { result ≡ gives_back (world_in layout.now) (set_of layout.now.tables.catalogue (number_of key)) t }
+    requires { Named layout.now.tables.now.catalogue (number_of key) × (t < layout.now.tables.now.catalogue.n) }
+    ensures { result ≡ gives_back (world_in layout.now) (set_of layout.now.tables.now.catalogue (number_of key)) t }
 {
     let row = key.row(t) as usize;
     row == 0 || layout.trial(key, Row { table: t, row }).key == key
@@ -58,17 +58,17 @@ fn gives_back(layout: &Layout<'_>, key: Key, t: usize) -> bool
 // Whether a listed key is that of a maximal set: it names rows, and the trial of each of them gives the set back.
 // No test for consistent or connected rows is made; the trials tell.
 fn is_maximal(layout: &Layout<'_>, key: Key) -> bool
-    ensures { result ≡ standing (world_in layout.now) (word_set layout.now.tables.catalogue (number_of key)) }
+    ensures { result ≡ standing (world_in layout.now) (word_set layout.now.tables.now.catalogue (number_of key)) }
 {
-    rows::named(&layout.tables, key)
+    rows::named(layout.tables, key)
         && (0..layout.tables.catalogue.n).all(|t| gives_back(layout, key, t))
 }
 
 // The key of the set that the trial of a row on a maximal set comes to.
 // A row of the set itself gives the set back, so that no trial is made twice.
 fn reached_by(layout: &Layout<'_>, key: Key, row: Row) -> Key
-    requires { Named layout.now.tables.catalogue (number_of key) × There layout.now.tables.catalogue row.table row.row × Maximal (world_in layout.now) (set_of layout.now.tables.catalogue (number_of key)) }
-    ensures { number_of result ≡ key_of bits_per_row (trial (world_in layout.now) (set_of layout.now.tables.catalogue (number_of key)) (place_of row)).rows }
+    requires { Named layout.now.tables.now.catalogue (number_of key) × There layout.now.tables.now.catalogue row.table row.row × Maximal (world_in layout.now) (set_of layout.now.tables.now.catalogue (number_of key)) }
+    ensures { number_of result ≡ key_of bits_per_row (trial (world_in layout.now) (set_of layout.now.tables.now.catalogue (number_of key)) (place_of row)).rows }
 {
     if key.row(row.table) as usize == row.row {
         key
@@ -89,7 +89,7 @@ struct HubList<'a> {
     entered: usize,
     ghost counted: { count ≡ length (listed_in keys) },
     ghost within: { entered ≤ count },
-    ghost linked: { ∥ Linked layout.tables.catalogue.n keys.low.now keys.high.now left right (records_of entered) ∥₁ },
+    ghost linked: { ∥ Linked layout.tables.now.catalogue.n keys.low.now keys.high.now left right (records_of entered) ∥₁ },
 }
 
 impl<'a> HubList<'a> {
@@ -110,8 +110,8 @@ impl<'a> HubList<'a> {
     // The empty link of the tree that a search for a key ends at; None where the key has a record.
     // Every search of the check is this one, so that its time does not grow with the list.
     fn link_for(&self, key: Key) -> Option<Link>
-        requires { (0 < self.now.entered) × Low self.now.layout.tables.catalogue.n (number_of key) }
-        ensures { let k = records_of self.now.entered in MatchOption result (among (listed_in self.now.keys) k (number_of key) ≡ true) (EndsAt self.now.layout.tables.catalogue.n self.now.keys.low.now self.now.keys.high.now self.now.left self.now.right k (number_of key)) }
+        requires { (0 < self.now.entered) × Low self.now.layout.tables.now.catalogue.n (number_of key) }
+        ensures { let k = records_of self.now.entered in MatchOption result (among (listed_in self.now.keys) k (number_of key) ≡ true) (EndsAt self.now.layout.tables.now.catalogue.n self.now.keys.low.now self.now.keys.high.now self.now.left self.now.right k (number_of key)) }
     {
         let links = Links {
             left: &self.left,
@@ -136,7 +136,7 @@ impl<'a> HubList<'a> {
 
     // Whether one of the entered keys is this one: a search of the tree, and for those without a record a look at each.
     fn has(&self, key: Key) -> bool
-        requires { Low self.now.layout.tables.catalogue.n (number_of key) }
+        requires { Low self.now.layout.tables.now.catalogue.n (number_of key) }
         ensures { result ≡ among (listed_in self.now.keys) self.now.entered (number_of key) }
     {
         if self.entered == 0 {
@@ -148,7 +148,7 @@ impl<'a> HubList<'a> {
 
     // Whether the next entry repeats an earlier one; if not, it is entered, and comes into the tree where there is a record for it.
     fn enter(&mut self) -> bool
-        requires { (self.old.entered < self.old.count) × Low self.old.layout.tables.catalogue.n (get_or (listed_in self.old.keys) self.old.entered 0) }
+        requires { (self.old.entered < self.old.count) × Low self.old.layout.tables.now.catalogue.n (get_or (listed_in self.old.keys) self.old.entered 0) }
         ensures repeats { result ≡ among (listed_in self.old.keys) self.old.entered (get_or (listed_in self.old.keys) self.old.entered 0) }
         ensures entered { result ≡ false → self.new.entered ≡ self.old.entered + 1 }
         ensures same { (self.new.layout ≡ self.old.layout) × (self.new.keys ≡ self.old.keys) }
@@ -189,8 +189,8 @@ impl<'a> HubList<'a> {
 
     // The key of the first set that the trials of all rows on a listed set reach and that is not listed, if there is one.
     fn first_out(&self, key: Key) -> Option<Key>
-        requires { (self.now.entered ≡ self.now.count) × Named self.now.layout.tables.catalogue (number_of key) × Maximal (world_in self.now.layout) (set_of self.now.layout.tables.catalogue (number_of key)) × Sound (world_in self.now.layout) (sets_in self.now.layout self.now.keys) }
-        ensures { out_of result ≡ answer_of (seek (sets_in self.now.layout self.now.keys) (tried (world_in self.now.layout) (set_of self.now.layout.tables.catalogue (number_of key)) (rows (world_in self.now.layout)))) }
+        requires { (self.now.entered ≡ self.now.count) × Named self.now.layout.tables.now.catalogue (number_of key) × Maximal (world_in self.now.layout) (set_of self.now.layout.tables.now.catalogue (number_of key)) × Sound (world_in self.now.layout) (sets_in self.now.layout self.now.keys) }
+        ensures { out_of result ≡ answer_of (seek (sets_in self.now.layout self.now.keys) (tried (world_in self.now.layout) (set_of self.now.layout.tables.now.catalogue (number_of key)) (rows (world_in self.now.layout)))) }
     {
         for j in 0..self.layout.measures.total {
             let row = self.layout.tables.row_at(j);
@@ -231,8 +231,8 @@ fn judge_none(layout: &Layout<'_>) -> ListVerdict
 }
 
 // The verdict on a list: the entries first, then what their trials reach.
-fn judge(tables: Tables<'_>, keys: Keys<'_>) -> ListVerdict
-    ensures { told_of (Ok result) ≡ answer_of (verdict (world_of tables.entry.catalogue tables.entry.cells.now) (word_sets tables.entry.catalogue (listed_in keys.entry))) }
+fn judge(tables: &Tables<'_>, keys: Keys<'_>) -> ListVerdict
+    ensures { told_of (Ok result) ≡ answer_of (verdict (world_of tables.now.catalogue tables.now.cells.now) (word_sets tables.now.catalogue (listed_in keys.entry))) }
 {
     let count = list_length(keys);
     let layout = Layout::new(tables, count);
@@ -251,6 +251,7 @@ fn judge(tables: Tables<'_>, keys: Keys<'_>) -> ListVerdict
 
 // Checks the hub's list: whether it holds every maximal set once and nothing else, in any order.
 // Any words may be listed, and the list may have any length. Refusals: those of the catalogue.
+// The tables are made where they stay: so large a value, handed back, is a copy that calls `memcpy`.
 pub fn check_list(
     cat: Catalogue,
     cells: &[u64],
@@ -259,10 +260,14 @@ pub fn check_list(
 ) -> Result<ListVerdict, Refusal>
     ensures { ChecksList cat cells.now listed_low.now listed_high.now (told_of result) }
 {
-    let tables = Tables::new(cat, cells)?;
+    tables::check(cat, cells.len())?;
+    let tables = Tables {
+        catalogue: cat,
+        cells,
+    };
     let keys = Keys {
         low: listed_low,
         high: listed_high,
     };
-    Ok(judge(tables, keys))
+    Ok(judge(&tables, keys))
 }

@@ -10,15 +10,15 @@ use Rattle.sets.specs.declared.RowSet.{RowSet}
 
 -- The tables of the rule that are laid out.
 abbrev pub world : Layout → Tables
-world l = world_of l.tables.catalogue l.tables.cells.now
+world l = world_of l.tables.now.catalogue l.tables.now.cells.now
 
 -- The rows of a set under way.
 abbrev pub rows_of : RowSet → List ℕ
-rows_of s = set_of s.layout.now.tables.catalogue (number_of s.key)
+rows_of s = set_of s.layout.now.tables.now.catalogue (number_of s.key)
 
 -- The rows of table t, as the walks read them.
 pub record IsTable (l : Layout) (t : ℕ) (r : Rows) : Type 0 where
-  pub cells : r.cells.now ≡ l.tables.cells.now
-  pub scheme : r.scheme ≡ scheme_of l.tables.catalogue t
-  pub base : r.base ≡ first_cell l.tables.catalogue t
-  pub count : r.count ≡ count_of l.tables.catalogue t
+  pub cells : r.cells.now ≡ l.tables.now.cells.now
+  pub scheme : r.scheme ≡ scheme_of l.tables.now.catalogue t
+  pub base : r.base ≡ first_cell l.tables.now.catalogue t
+  pub count : r.count ≡ count_of l.tables.now.catalogue t

@@ -5,6 +5,7 @@
 ghost use Rattle.std.specs.Prelude.{◌≡◌, ◌≤◌, ◌<◌, cond, length, IfOk, IfErr, OnErr};
 ghost use Rattle.refusals.specs.Refusals.{number, fault_in};
 ghost use Rattle.tables.specs.Catalogues.{total};
+ghost use Rattle.tables.specs.Checks.{Lawful};
 ghost use Rattle.keys.specs.TwoWords.{number_of};
 ghost use Rattle.disjunction.specs.Asked.{first_for};
 ghost use Rattle.rows.specs.World.{world_of, place_of};
@@ -136,7 +137,7 @@ impl Scope {
 }
 
 // Opens a stream of what is asked for: the first row, or the row asked for, alone and extended, becomes record 0 of the store.
-// Everything is checked before that record is written.
+// Everything is checked before that record is written. The tables are made where they stay: so large a value, handed back, is a copy that calls `memcpy`.
 pub fn open_for(
     cat: Catalogue,
     cells: &[u64],
@@ -148,7 +149,11 @@ pub fn open_for(
 ) -> Result<Opened<StreamRecord>, Refusal>
     ensures { opened_for (asked_of scope) result low.new high.new left.new right.new ≡ opening_for cat cells.now (asked_of scope) low.old high.old left.old right.old }
 {
-    let tables = Tables::new(cat, cells)?;
+    tables::check(cat, cells.len())?;
+    let tables = Tables {
+        catalogue: cat,
+        cells,
+    };
     if scope.is_stray(&tables) {
         return Err(Refusal::NoSuchRow);
     }
@@ -171,7 +176,7 @@ pub fn open_for(
     }
     let first = scope.first(&tables);
     let alone = Key::none().with_row(first.table, first.row as u64);
-    let grown = Layout::new(tables, 1).extend(alone, 0);
+    let grown = Layout::new(&tables, 1).extend(alone, 0);
     store.file_record(0, grown.key);
     stream.found = 1;
     Ok(Opened {
@@ -239,24 +244,25 @@ fn check_record(
     Ok(())
 }
 
-// The tables of a call, or the refusal that it meets before work: 4, 5, 6, 8; 13; 11.
-fn check_call<'a>(
+// The refusal that a call meets before work: 4, 5, 6, 8; 13; 11. Where it meets none, these are tables.
+// It doesn't give them: so large a value, handed back, is a copy that calls `memcpy`.
+fn check_call(
     cat: Catalogue,
-    cells: &'a [u64],
+    cells: &[u64],
     store: &Store<'_>,
     s: StreamRecord,
     scope: Scope,
     padded: &[u64],
-) -> Result<Tables<'a>, Refusal>
+) -> Result<(), Refusal>
     ensures refusal { fault_in result ≡ call_fault cat (length cells.now) (stream_in (asked_of scope) s store.now) padded.now }
-    ensures tables { IfOk result (λ tables. (tables.catalogue ≡ cat) × (tables.cells.now ≡ cells.now)) }
+    ensures tables { IfOk result (λ done. Lawful cat (length cells.now)) }
 {
     let tables = Tables::new(cat, cells)?;
     check_record(&tables, store, s, scope)?;
     if padded.len() < cat.m {
         return Err(Refusal::ShortOutput);
     }
-    Ok(tables)
+    Ok(())
 }
 
 // The trial of the row at place next row on the set in record taken - 1.
@@ -267,14 +273,14 @@ fn trial(
     s: StreamRecord,
     scope: Scope,
 ) -> Result<Done, Refusal>
-    requires { Fit layout.now.tables.catalogue (stream_in (asked_of scope) s store.old) × (s.next_row < total layout.now.tables.catalogue) }
-    ensures refusal { IfErr result (λ refusal. number refusal ≡ refused_by (trial_on layout.now.tables.catalogue layout.now.tables.cells.now (stream_in (asked_of scope) s store.old))) }
-    ensures did { IfOk result (Did layout.now.tables (asked_of scope) s store.old store.new) }
+    requires { Fit layout.now.tables.now.catalogue (stream_in (asked_of scope) s store.old) × (s.next_row < total layout.now.tables.now.catalogue) }
+    ensures refusal { IfErr result (λ refusal. number refusal ≡ refused_by (trial_on layout.now.tables.now.catalogue layout.now.tables.now.cells.now (stream_in (asked_of scope) s store.old))) }
+    ensures did { IfOk result (Did layout.now.tables.now (asked_of scope) s store.old store.new) }
     ensures no_mark { OnErr result (NoMark store.old store.new) }
     ensures same { SameSlices store.old store.new }
 {
     let key = store.key_at(s.taken - 1);
-    if !rows::named(&layout.tables, key) {
+    if !rows::named(layout.tables, key) {
         return Err(Refusal::DamagedStore);
     }
     let row = layout.tables.row_at(s.next_row);
@@ -343,8 +349,8 @@ fn work(
     budget: usize,
     padded: &mut [u64],
 ) -> Stepped<StreamRecord>
-    requires { Fit layout.now.tables.catalogue (stream_in (asked_of scope) from store.old) × (layout.now.tables.catalogue.m ≤ length padded.old) }
-    ensures work { called_in (asked_of scope) result store.new padded.new ≡ work layout.now.tables.catalogue layout.now.tables.cells.now budget (stream_in (asked_of scope) from store.old) padded.old }
+    requires { Fit layout.now.tables.now.catalogue (stream_in (asked_of scope) from store.old) × (layout.now.tables.now.catalogue.m ≤ length padded.old) }
+    ensures work { called_in (asked_of scope) result store.new padded.new ≡ work layout.now.tables.now.catalogue layout.now.tables.now.cells.now budget (stream_in (asked_of scope) from store.old) padded.old }
     ensures same { SameSlices store.old store.new }
 {
     let mut stream = from;
@@ -374,7 +380,7 @@ fn work(
             }
         }
     }
-    hand_out(&layout.tables, store, stream, counts, padded)
+    hand_out(layout.tables, store, stream, counts, padded)
 }
 
 // One call of a stream of what is asked for, with a budget of trials, the record by value.
@@ -400,8 +406,13 @@ pub fn step_for(
         right,
     };
     match check_call(cat, cells, &store, stream, scope, padded) {
-        Ok(tables) => {
-            let layout = Layout::new(tables, budget);
+        Ok(()) => {
+            // Behind the check these are tables. They are made where they stay, as the layout only refers to them.
+            let tables = Tables {
+                catalogue: cat,
+                cells,
+            };
+            let layout = Layout::new(&tables, budget);
             work(&layout, &mut store, stream, scope, budget, padded)
         }
         Err(refusal) => Stepped {

@@ -2,15 +2,17 @@
 use mathlib.Core.Path.{sym, ◌∙◌}
 use Rattle.std.proofs.lemmas.Result.{err_from_is_err_and}
 use Rattle.refusals.proofs.RefusalLaws.{number-some}
+use Rattle.tables.proofs.CheckLaws.{fault-lawful}
 use Rattle.hub.proofs.JudgingLaws.{checked_refused, checked-lawful}
 use Rattle.hub.proofs.check_list.Goals as goal
 
-pub returns-in_err-tables : goal.returns-in_err-tables
-returns-in_err-tables c =
+pub invariant_of-tables : goal.invariant_of-tables
+invariant_of-tables c = record { lawful = fault-lawful _ _ (sym c.in_ok-check.ensures) }
+
+pub returns-in_err-check : goal.returns-in_err-check
+returns-in_err-check c =
     let p = err_from_is_err_and c.from_residual.result c.from_residual.ensures.1 in
-    rw (p.1, p.2) (sym (checked_refused _ _ _ _ c.in_err-tables.ensures.fault (number-some _)))
+    rw (p.1, p.2) (sym (checked_refused _ _ _ _ c.in_err-check.ensures (number-some _)))
 
 pub returns : goal.returns
-returns c =
-    let e = c.in_ok-tables.ensures in
-    (rw (e.tables.0, e.tables.1) at c.judge.ensures) ∙ sym (checked-lawful _ _ _ (sym e.fault))
+returns c = c.judge.ensures ∙ sym (checked-lawful _ _ _ (sym c.in_ok-check.ensures))

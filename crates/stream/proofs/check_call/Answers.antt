@@ -51,3 +51,6 @@ pub returns-clause-refusal : goal.returns-clause-refusal
 returns-clause-refusal c =
     let p = passed (goal.at.returns-clause-refusal c).In_ok-check_record in
     sym (call-free _ _ _ _ p.0 p.1 c.if-padded-cat.false)
+
+pub returns-clause-tables : goal.returns-clause-tables
+returns-clause-tables c = (passed (goal.at.returns-clause-tables c).In_ok-check_record).0

@@ -10,19 +10,20 @@ use Rattle.stream.specs.Parts.{called_in}
 use Rattle.stream.proofs.StreamLaws.{number-none}
 use Rattle.stream.proofs.step_for.Goals as goal
 
+pub invariant_of-tables : goal.invariant_of-tables
+invariant_of-tables c = record { lawful = c.in-Ok.ensures.tables }
+
 pub work-requires : goal.work-requires
 work-requires c =
-    let e = c.in-Ok.ensures in
-    let p = call-clear _ _ _ _ (sym e.refusal) in
-    rw (c.new-layout.ensures, e.tables.0) (p.1, p.2)
+    let p = call-clear _ _ _ _ (sym c.in-Ok.ensures.refusal) in
+    rw c.new-layout.ensures (p.1, p.2)
 
 pub returns-in-Ok : goal.returns-in-Ok
 returns-in-Ok c =
     let a = c.args in
-    let e = c.in-Ok.ensures in
     let f : called_in (asked_of a.scope) c.work.result c.work.new.store c.work.new.padded
     ≡ call a.cat a.cells.now a.budget (state_with (asked_of a.scope) a.stream a.low.now a.high.now a.left.now a.right.now) a.padded.now =
-    (rw (c.new-layout.ensures, e.tables.0, e.tables.1) at c.work.ensures.work) ∙ sym (call-works _ _ _ _ _ (sym e.refusal)) in
+    (rw c.new-layout.ensures at c.work.ensures.work) ∙ sym (call-works _ _ _ _ _ (sym c.in-Ok.ensures.refusal)) in
     grind (arith, common_steps)
 
 pub returns-in-Err : goal.returns-in-Err

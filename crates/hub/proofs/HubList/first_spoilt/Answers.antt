@@ -36,13 +36,13 @@ own c =
 
 -- Whether its set is maximal,
 stands : (c : After-is_maximal) → c.is_maximal.result
-    ≡ standing (world_in c.args.self.now.layout) (word_set c.args.self.now.layout.tables.catalogue (get_or (listed_in c.args.self.now.keys) c.loop-i.i 0))
+    ≡ standing (world_in c.args.self.now.layout) (word_set c.args.self.now.layout.tables.now.catalogue (get_or (listed_in c.args.self.now.keys) c.loop-i.i 0))
 stands c = rw (c.loop-i.invariant.layout, own c) at c.is_maximal.ensures
 
 pub enter-requires : goal.enter-requires
 enter-requires c =
     let s = c.loop-i.self in
-    let t = s.layout.tables in
+    let t = s.layout.tables.now in
     let i = c.loop-i.invariant.entered in (
       omega (arith, c.loop-i-test.true, i, count s c.args.self.now c.loop-i.invariant.keys),
       rw (i, c.loop-i.invariant.keys, ← own (goal.at.enter-requires c).After-is_maximal)
@@ -55,13 +55,13 @@ repeats : (c : After-is_maximal) (r : Bool) → c.is_maximal.result ≡ true
     → spoilt (world_in c.args.self.now.layout) (sets_in c.args.self.now.layout c.args.self.now.keys) c.loop-i.i ≡ r
 repeats c r y e =
     let s = c.args.self.now in
-    let t = s.layout.tables in
+    let t = s.layout.tables.now in
     spoilt-new t.catalogue t.cells.now _ t.lawful (listed_in s.keys) c.loop-i.i (sym (stands c) ∙ y) ∙ sym (rw (c.loop-i.invariant.entered, c.loop-i.invariant.keys) at e)
 
 pub returns-then-not-is_maximal-clause-first : goal.returns-then-not-is_maximal-clause-first
 returns-then-not-is_maximal-clause-first c =
     let s = c.args.self.now in
-    let t = s.layout.tables in
+    let t = s.layout.tables.now in
     let b = (goal.at.returns-then-not-is_maximal-clause-first c).After-is_maximal in
     let spoilt-here : spoilt (world_in s.layout) (sets_in s.layout s.keys) c.loop-i.i ≡ true =
     elim c.then-not-is_maximal.branch [

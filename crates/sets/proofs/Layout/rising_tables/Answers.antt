@@ -15,7 +15,7 @@ loop-t-preserved c =
     elim c.if-first_rises.branch [
       | then-first_rises x ↦
           rw x.rising-is
-          (rising-more s.tables.catalogue s.tables.cells.now c.loop-t.t _ _ c.loop-t.invariant (one_shl c.loop-t.t (omega (arith, c.loop-t-test.true, s.tables.lawful.tables)))
+          (rising-more s.tables.now.catalogue s.tables.now.cells.now c.loop-t.t _ _ c.loop-t.invariant (one_shl c.loop-t.t (omega (arith, c.loop-t-test.true, s.tables.now.lawful.tables)))
           (rw (c.rows.result.wide, r.cells, r.scheme, r.base, r.count) at (c.first_rises.ensures x.if-first_rises.true)))
       | else-first_rises x ↦ rw x.rising-is c.loop-t.invariant
     ]

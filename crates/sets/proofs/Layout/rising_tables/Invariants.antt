@@ -3,4 +3,4 @@ use Rattle.sets.specs.Promises.{RisingIn}
 use Rattle.sets.proofs.Layout.rising_tables.Given as goal
 
 abbrev pub invariant-loop-t : goal.invariant-loop-t
-invariant-loop-t l = RisingIn l.self.tables.catalogue l.self.tables.cells.now l.rising
+invariant-loop-t l = RisingIn l.self.tables.now.catalogue l.self.tables.now.cells.now l.rising
