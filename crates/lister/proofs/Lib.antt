@@ -1,2 +1,3 @@
 pub mod ListingLaws
 pub mod AskedLaws
+pub mod ScopeLaws

@@ -4,9 +4,10 @@ ghost use Rattle.tables.specs.Sizes.{most_attributes, most_cells};
 ghost use Rattle.tables.specs.Catalogues.{total};
 ghost use Rattle.refusals.specs.Refusals.{number};
 ghost use Rattle.stream.specs.Answers.{answer_in, key_in};
+ghost use Rattle.stream.specs.declared.Scope.TheVariants.{With};
 ghost use Rattle.stream.specs.Promises.{asked_of, says_of};
-ghost use Rattle.stream.specs.Parts.{stream_in, called_in};
-ghost use Rattle.machine.specs.Machine.{call};
+ghost use Rattle.stream.specs.Parts.{stream_in, called_in, opened_for};
+ghost use Rattle.machine.specs.Machine.{call, opening_for};
 ghost use Rattle.store.specs.Lent.{SameSlices};
 ghost use Rattle.lines.specs.Cursors.{HasRoom, Puts, SameBuffer};
 ghost use Rattle.lines.specs.Lines.{tables_line, end_line, refused_line};
@@ -14,11 +15,11 @@ ghost use Rattle.keys.specs.TwoWords.{number_of};
 ghost use Rattle.lister.specs.Listing.{blank, most_line, line_of, left_of, tables_text, listing_of, Zeros, to_come, calls_in, lines_at, Ready, Gives};
 
 use crate::Standing;
-use harbour::{Answer, Counts, Refusal, Stepped, StreamRecord};
+use harbour::{Answer, Counts, HoldingRecord, Opened, Refusal, Stepped, StreamRecord};
 use lines::Cursor;
 use store::Store;
 use stream::Scope;
-use tables::Tables;
+use tables::{Row, Tables};
 
 // The longest input that is taken for an image.
 const MOST_INPUT: usize = 65536;
@@ -83,23 +84,60 @@ fn calls_left(answer: Answer, calls: usize) -> usize
     }
 }
 
-// Makes the next call of a list, with a budget of N trials.
-fn step(p: Standing<'_>, store: &mut Store<'_>, padded: &mut [u64]) -> Stepped<StreamRecord>
-    ensures called { let t = p.entry.tables in called_in (asked_of p.entry.scope) result store.new padded.new ≡ call t.catalogue t.cells.now (total t.catalogue) (stream_in (asked_of p.entry.scope) p.entry.stream store.old) padded.old }
+// Makes the next call of a list of the sets that hold a row, with a budget of N trials.
+// Its record names the row: it is made for the call, and taken apart again.
+fn step_with(
+    p: Standing<'_>,
+    asked: Row,
+    store: &mut Store<'_>,
+    padded: &mut [u64],
+) -> Stepped<StreamRecord>
+    ensures called { let t = p.entry.tables in called_in (asked_of (With asked)) result store.new padded.new ≡ call t.catalogue t.cells.now (total t.catalogue) (stream_in (asked_of (With asked)) p.entry.stream store.old) padded.old }
     ensures slices { SameSlices store.old store.new }
 {
-    stream::step_for(
+    let before = HoldingRecord {
+        stream: p.stream,
+        table: asked.table,
+        row: asked.row,
+    };
+    let stepped = harbour::step_holding(
         p.tables.catalogue,
         p.tables.cells,
         store.low,
         store.high,
         store.left,
         store.right,
-        p.stream,
-        p.scope,
+        before,
         p.tables.total_rows(),
         padded,
-    )
+    );
+    Stepped {
+        answer: stepped.answer,
+        counts: stepped.counts,
+        stream: stepped.stream.stream,
+    }
+}
+
+// Makes the next call of a list, with a budget of N trials.
+// Where every set is asked for, it is a thin call.
+fn step(p: Standing<'_>, store: &mut Store<'_>, padded: &mut [u64]) -> Stepped<StreamRecord>
+    ensures called { let t = p.entry.tables in called_in (asked_of p.entry.scope) result store.new padded.new ≡ call t.catalogue t.cells.now (total t.catalogue) (stream_in (asked_of p.entry.scope) p.entry.stream store.old) padded.old }
+    ensures slices { SameSlices store.old store.new }
+{
+    match p.scope {
+        Scope::Every => harbour::step(
+            p.tables.catalogue,
+            p.tables.cells,
+            store.low,
+            store.high,
+            store.left,
+            store.right,
+            p.stream,
+            p.tables.total_rows(),
+            padded,
+        ),
+        Scope::With(asked) => step_with(p, asked, store, padded),
+    }
 }
 
 // Makes one call and puts its line behind what the buffer holds, and says where the list then stands.
@@ -179,6 +217,53 @@ fn put_refusal(refusal: Refusal, to: &mut Cursor<'_>)
     to.line(b"refused", &[u64::from(refusal)]);
 }
 
+// Opens the stream of the sets that hold a row, and takes its record apart: a list keeps the row beside it.
+fn open_with(
+    asked: Row,
+    tables: Tables<'_>,
+    store: &mut Store<'_>,
+) -> Result<Opened<StreamRecord>, Refusal>
+    ensures opened { let t = tables.entry in opened_for (asked_of (With asked)) result store.new.low.now store.new.high.now store.new.left.now store.new.right.now ≡ opening_for t.catalogue t.cells.now (asked_of (With asked)) store.old.low.now store.old.high.now store.old.left.now store.old.right.now }
+    ensures slices { SameSlices store.old store.new }
+{
+    let opened = harbour::open_holding(
+        tables.catalogue,
+        tables.cells,
+        store.low,
+        store.high,
+        store.left,
+        store.right,
+        asked.table,
+        asked.row,
+    )?;
+    Ok(Opened {
+        stream: opened.stream.stream,
+        tests: opened.tests,
+    })
+}
+
+// Opens the stream of what is asked for.
+fn open_for(
+    scope: Scope,
+    tables: Tables<'_>,
+    store: &mut Store<'_>,
+) -> Result<Opened<StreamRecord>, Refusal>
+    ensures opened { let t = tables.entry in opened_for (asked_of scope) result store.new.low.now store.new.high.now store.new.left.now store.new.right.now ≡ opening_for t.catalogue t.cells.now (asked_of scope) store.old.low.now store.old.high.now store.old.left.now store.old.right.now }
+    ensures slices { SameSlices store.old store.new }
+{
+    match scope {
+        Scope::Every => harbour::open(
+            tables.catalogue,
+            tables.cells,
+            store.low,
+            store.high,
+            store.left,
+            store.right,
+        ),
+        Scope::With(asked) => open_with(asked, tables, store),
+    }
+}
+
 // Opens a stream of what is asked for on tables that were loaded, puts the first line into the buffer, and says where the list then stands.
 // Where it is refused, its line is all the text.
 fn open_list<'a>(
@@ -193,15 +278,7 @@ fn open_list<'a>(
     ensures same { SameBuffer to.old to.new }
 {
     let cat = tables.catalogue;
-    match stream::open_for(
-        cat,
-        tables.cells,
-        store.low,
-        store.high,
-        store.left,
-        store.right,
-        scope,
-    ) {
+    match open_for(scope, tables, store) {
         Ok(opened) => {
             put_tables(cat.m, cat.n, tables.total_rows(), opened.tests, to);
             Some(Standing {

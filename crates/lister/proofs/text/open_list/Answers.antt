@@ -8,11 +8,11 @@ returns-in-Ok-clause-gives c =
     let a = c.args in
     let p = c.requires in
     rw c.none.ensures
-    (open_gives a.scope a.tables _ _ (rw (p.0.0, p.0.1, p.0.2, p.0.3) at c.in-Ok.ensures) p.2
+    (open_gives a.scope a.tables _ _ (rw (p.0.0, p.0.1, p.0.2, p.0.3) at c.in-Ok.ensures.opened) p.2
     (rw (c.total_rows.ensures, p.1) at c.put_tables.ensures.puts))
 
 pub returns-in-Err-clause-gives : goal.returns-in-Err-clause-gives
 returns-in-Err-clause-gives c =
     let a = c.args in
     let p = c.requires in
-    refused-gives a.scope a.tables.catalogue a.tables.cells.now _ c.in-Err.refusal (rw (p.0.0, p.0.1, p.0.2, p.0.3) at c.in-Err.ensures) p.2 (rw p.1 at c.put_refusal.ensures.puts)
+    refused-gives a.scope a.tables.catalogue a.tables.cells.now _ c.in-Err.refusal (rw (p.0.0, p.0.1, p.0.2, p.0.3) at c.in-Err.ensures.opened) p.2 (rw p.1 at c.put_refusal.ensures.puts)
