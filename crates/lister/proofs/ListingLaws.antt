@@ -3,6 +3,7 @@
 use Prim.Native.Nat.{ℕ, zero, suc, ◌+◌, ◌-◌, ◌≤◌, ◌<◌}
 use native.Mathlib.Omega.{arith}
 use native.Mathlib.Nat.{eq-zero-or-pos}
+use native.Mathlib.Decide.{ℕ_discrete}
 use native.Mathlib.Numerals.{sub-one}
 use mathlib.Core.Logic.{⊎_elim}
 use mathlib.Core.Path.{◌≡◌, refl, sym, ap, ◌∙◌}
@@ -34,11 +35,12 @@ use Rattle.stream.specs.Promises.{asked_of, says_of}
 use Rattle.stream.specs.Parts.{stream_in, called_in, opened_for}
 use Rattle.lines.specs.Lines.{tables_line, refused_line, too_long, bytes}
 use Rattle.lines.proofs.LineLaws.{line-few, set-few}
+use Rattle.std.specs.Prelude.{Option}
 use Rattle.std.proofs.Common.{Some, None, Ok, Err}
 use Rattle.tables.specs.declared.Tables.{Tables}
 use Rattle.lister.specs.declared.Standing.{Standing}
 use Rattle.stream.specs.Answers.{answer_in, key_in}
-use Rattle.lister.specs.Listing.{most_input, most_records, blank, most_calls, most_line, line_of, left_of, further, unless_refused, lines_of, tables_text, verdict_text, image_text, listing_of, to_come, text_from, Ready, Lines, Gives, Printing}
+use Rattle.lister.specs.Listing.{most_input, most_records, blank, most_calls, most_line, line_of, left_of, further, unless_refused, lines_of, tables_text, verdict_text, image_text, listing_of, to_come, calls_in, text_from, Ready, Lines, Gives, Printing}
 
 pub blank-length : (k : ℕ) → length (blank k) ≡ k
 unfolding blank
@@ -199,6 +201,18 @@ module _ (p : Standing) (store : Store) (row out : List ℕ) (store' : Store) (r
 
     pub turn-goes : (k ≡ 0 → ⊥) → Gives (take at out ++ to_come p store row) (record { filled = n; more = Some next }) store' row' out'
     turn-goes z = record { same = kept; filled = fits; ready = goes (omega (arith, z)) }
+
+    fewer : k < p.calls
+    fewer = omega (arith, left-few (says_of (answer_in r.answer)) (p.calls - 1), w.some)
+
+    -- In both, a call less is left at least, and what the buffer holds and what is still to come stay the same text.
+    pub turn-gives : (more : Option Standing) → (k ≡ 0 → more ≡ None) → ((k ≡ 0 → ⊥) → more ≡ Some next)
+        → (calls_in more < p.calls) × Gives (take at out ++ to_come p store row) (record { filled = n; more = more }) store' row' out'
+    turn-gives more e f =
+        elim (ℕ_discrete k 0) [
+          | yes z ↦ rw (e z) (w.some, turn-ends z)
+          | no z ↦ rw (f z) (fewer, turn-goes z)
+        ]
 
 -- What a list gives that gives a text, gives that text.
 pub gives-on : {text : List ℕ} {f : ℕ} {p : Standing} {s : Lines} {row out row' out' : List ℕ} {store store' : Store}
