@@ -29,9 +29,24 @@ impl From<Refusal> for Failure {
     }
 }
 
-// Puts a table of an image as text into the front of the output, and gives the text's length.
+// Writes a table of which these are the cells.
+// The buffer is made here, behind every refusal of the image, so that it is not there before.
+fn write_table(
+    rt: &HostRuntime,
+    m: usize,
+    scheme: u64,
+    rows: usize,
+    cells: &[u64],
+) -> Result<(), Failure> {
+    let mut out = [0u8; 262144];
+    let length = exporter::write_text(m, scheme, rows, cells, &mut out)?;
+    teller::send(rt, &out, length);
+    Ok(())
+}
+
+// Writes a table of an image.
 // The catalogue is checked again, so that the table's cells are known to lie among those that were lent.
-fn export_image(image: &[u8], table: usize, out: &mut [u8]) -> Result<usize, Failure> {
+fn export_image(rt: &HostRuntime, image: &[u8], table: usize) -> Result<(), Failure> {
     let mut cells = [0u64; 8192];
     let cat = loader::load(image, &mut cells)?;
     let tables = Tables::new(cat, &cells)?;
@@ -40,25 +55,28 @@ fn export_image(image: &[u8], table: usize, out: &mut [u8]) -> Result<usize, Fai
     }
     let scheme = cat.schemes[table];
     let rows = usize::from(cat.rows[table]);
-    let length = exporter::write_text(cat.m, scheme, rows, tables.cells_of(table), out)?;
-    Ok(length)
+    write_table(rt, cat.m, scheme, rows, tables.cells_of(table))
 }
 
-// Writes the table that the argument names of the image on standard input.
-fn export(rt: &HostRuntime) -> Result<(), Failure> {
-    if teller::arg_count(rt) != 2 {
-        return Err(Failure::WrongArguments);
-    }
-    let table = teller::number(rt, 1).ok_or(Failure::WrongArguments)?;
+// Reads standard input as an image and writes a table of it.
+fn export_table(rt: &HostRuntime, table: usize) -> Result<(), Failure> {
     let mut input = [0u8; MOST_INPUT + 1];
     let n = teller::read_full(&mut rt.stdin(), &mut input);
     if MOST_INPUT < n {
         return Err(Failure::LongInput);
     }
-    let mut out = [0u8; 262144];
-    let length = export_image(&input[..n], table as usize, &mut out)?;
-    teller::send(rt, &out, length);
-    Ok(())
+    export_image(rt, &input[..n], table)
+}
+
+// Writes the table that the argument names.
+fn export(rt: &HostRuntime) -> Result<(), Failure> {
+    if teller::arg_count(rt) != 2 {
+        return Err(Failure::WrongArguments);
+    }
+    let mut word = [0u8; 64];
+    let n = teller::arg(rt, 1, &mut word);
+    let table = lines::read_decimal(&word[..n]).ok_or(Failure::WrongArguments)?;
+    export_table(rt, table as usize)
 }
 
 // Exports, or tells on standard error why nothing is written.

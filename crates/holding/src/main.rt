@@ -29,13 +29,21 @@ fn usage(rt: &HostRuntime) {
     teller::say(rt, b"usage: holding TABLE ROW\n");
 }
 
+// An argument as a number, if it says one in decimal digits.
+// One that is missing, or longer than any number in decimal digits need be, comes as no byte at all.
+fn number(rt: &HostRuntime, i: usize) -> Option<u64> {
+    let mut word = [0u8; 64];
+    let n = teller::arg(rt, i, &mut word);
+    lines::read_decimal(&word[..n])
+}
+
 // Lists the sets that hold the row that the two arguments name.
 fn main(rt: HostRuntime) {
     if teller::arg_count(&rt) != 3 {
         usage(&rt);
         return;
     }
-    match (teller::number(&rt, 1), teller::number(&rt, 2)) {
+    match (number(&rt, 1), number(&rt, 2)) {
         (Some(table), Some(row)) => {
             let asked = Row {
                 table: table as usize,

@@ -7,6 +7,7 @@ ghost use Rattle.std.specs.Prelude.{◌≤◌};
 use importer::Table;
 use refusals::Refusal;
 use std::fs::File;
+use tables::Catalogue;
 
 // The most bytes that are read of a file.
 const MOST_TEXT: usize = 262144;
@@ -71,8 +72,17 @@ fn table_of(rt: &HostRuntime, m: usize, path: &[u8], cells: &mut [u64]) -> Resul
     }
 }
 
-// Reads the files that the arguments from the third on name, a table each, and puts their image into the front of the output. Gives its length.
-fn import_files(rt: &HostRuntime, m: usize, files: usize, out: &mut [u8]) -> Result<usize, Failure>
+// Writes the image of the tables.
+// The buffer is made here, behind the reading of the files, so that it is not there before.
+fn write_image(rt: &HostRuntime, cat: Catalogue, cells: &[u64]) -> Result<(), Failure> {
+    let mut out = [0u8; 131072];
+    let length = writer::write(cat, cells, &mut out)?;
+    teller::send(rt, &out, length);
+    Ok(())
+}
+
+// Reads the files that the arguments from the third on name, a table each, and writes their image.
+fn import_files(rt: &HostRuntime, m: usize, files: usize) -> Result<(), Failure>
     requires { files ≤ 8 }
 {
     let mut cells = [0u64; 8192];
@@ -80,9 +90,9 @@ fn import_files(rt: &HostRuntime, m: usize, files: usize, out: &mut [u8]) -> Res
     let mut rows = [0u16; 8];
     let mut used = 0;
     for t in 0..files {
-        let mut word = [0u8; 4096];
-        let path = teller::arg(rt, t + 2, &mut word);
-        let table = table_of(rt, m, path, &mut cells[used..])?;
+        let mut path = [0u8; 4096];
+        let k = teller::arg(rt, t + 2, &mut path);
+        let table = table_of(rt, m, &path[..k], &mut cells[used..])?;
         used = tables::check_count(
             MOST_ROWS,
             cells.len(),
@@ -94,8 +104,7 @@ fn import_files(rt: &HostRuntime, m: usize, files: usize, out: &mut [u8]) -> Res
         rows[t] = table.rows as u16;
     }
     let cat = tables::make_catalogue(m, files, schemes, rows)?;
-    let length = writer::write(cat, &cells, out)?;
-    Ok(length)
+    write_image(rt, cat, &cells)
 }
 
 // Writes the image of the tables that the arguments name.
@@ -108,11 +117,10 @@ fn import(rt: &HostRuntime) -> Result<(), Failure> {
     if 10 < count {
         return Err(Failure::Refused(Refusal::SizesOut));
     }
-    let m = teller::number(rt, 1).ok_or(Failure::WrongArguments)?;
-    let mut out = [0u8; 131072];
-    let length = import_files(rt, m as usize, count - 2, &mut out)?;
-    teller::send(rt, &out, length);
-    Ok(())
+    let mut word = [0u8; 64];
+    let n = teller::arg(rt, 1, &mut word);
+    let m = lines::read_decimal(&word[..n]).ok_or(Failure::WrongArguments)?;
+    import_files(rt, m as usize, count - 2)
 }
 
 // Imports, or tells on standard error why nothing is written.

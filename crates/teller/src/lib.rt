@@ -13,7 +13,7 @@ use std::io::{Read, Write};
 // So many bytes of a buffer, or all that it has.
 // What is written is then just this front, neither less nor more.
 fn front(n: usize, buffer: &[u8]) -> &[u8]
-    ensures { result.now ≡ take n buffer.now }
+    ensures { (result.now ≡ take n buffer.now) × IsPrefixLen (length result.now) buffer.now }
 {
     &buffer[..n.min(buffer.len())]
 }
@@ -28,20 +28,12 @@ pub fn arg_count(rt: &HostRuntime) -> usize {
     usize::MAX
 }
 
-// An argument, in the front of the buffer.
+// Puts an argument into the front of the buffer and gives its length.
 // One that is missing, or longer than the buffer, comes as no byte at all.
-pub fn arg<'a>(rt: &HostRuntime, i: usize, buffer: &'a mut [u8]) -> &'a [u8]
-    ensures { length result.now ≤ length buffer.old }
+pub fn arg(rt: &HostRuntime, i: usize, buffer: &mut [u8]) -> usize
+    ensures { IsPrefixLen result buffer.new }
 {
-    let n = rt.arg(i, buffer).unwrap_or(0);
-    &buffer[..n]
-}
-
-// The number that an argument says in decimal digits, if it says one.
-// At most 64 bytes are read, so that a number with more zeros in front is told as none.
-pub fn number(rt: &HostRuntime, i: usize) -> Option<u64> {
-    let mut word = [0u8; 64];
-    lines::read_decimal(arg(rt, i, &mut word))
+    rt.arg(i, buffer).unwrap_or(0)
 }
 
 // Reads until the buffer is full, the input ends or a read fails, and gives how many bytes came into its front.
