@@ -20,9 +20,13 @@ pub struct Cursor<'a> {
 }
 
 // How many digits a number has.
+// One digit is told without the library: many numbers have no more.
 pub fn places(x: u64) -> usize
     ensures { result ≡ length (decimal x) }
 {
+    if x < 10 {
+        return 1;
+    }
     let mut buffer = Buffer::new();
     buffer.format(x).len()
 }
@@ -50,13 +54,18 @@ impl Cursor<'_> {
     }
 
     // Puts the digits of a number.
+    // One digit is put without the library: many numbers have no more.
     pub fn decimal(&mut self, x: u64)
         requires { HasRoom self.old (length (decimal x)) }
         ensures puts { Puts (decimal x) self.old self.new }
         ensures same { SameBuffer self.old self.new }
     {
-        let mut buffer = Buffer::new();
-        self.word(buffer.format(x).as_bytes());
+        if x < 10 {
+            self.byte(b'0' + x as u8);
+        } else {
+            let mut buffer = Buffer::new();
+            self.word(buffer.format(x).as_bytes());
+        }
     }
 
     // Puts a field: a space and a number.
