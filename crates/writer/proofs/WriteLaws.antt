@@ -1,5 +1,5 @@
 -- The writer's definitions, one law for each way that the code goes; what tables that meet no refusal have; and an image is short. Assumes nothing.
-use Prim.Native.Nat.{ℕ, zero, suc, ◌+◌, ◌-◌, ◌*◌, ◌/◌, ◌^◌, ◌≤◌, ◌<◌}
+use Prim.Native.Nat.{ℕ, zero, suc, ◌+◌, ◌-◌, ◌*◌, ◌/◌, ◌^◌, ◌≤◌, ◌<◌, min}
 use native.Mathlib.Nat.{suc-mul, pow-le-pow_right, add-div_left, div-eq_of_lt, mul-div_cancel}
 use native.Mathlib.Decide.{ℕ_discrete, dec_lt}
 use native.Mathlib.Omega.{arith}
@@ -7,11 +7,11 @@ use native.Mathlib.Numerals.{add-one}
 use mathlib.Core.Path.{◌≡◌, refl, sym, ap, ◌∙◌}
 use mathlib.Core.Bool.{Bool, true, false, cond, ◌&&◌, ◌||◌}
 use mathlib.Core.List.{List, [], ◌∷◌, ◌++◌, append_assoc, append-nil}
-use lib.ListN.{length, take, drop, get_or, length-append, length-take, drop_of_length-le}
+use lib.ListN.{length, take, drop, get_or, length-append, length-take, length-drop, drop_of_length-le}
 use lib.Seq.{drop-cons, drop-drop, take_at, drop_at}
 use lib.Count.{ones}
-use lib.Dec.{leb, eqb}
-use borrow.Author.Tests.{lt-ltb, le-ltb, le-leb, lt-leb}
+use lib.Dec.{ltb, leb, eqb}
+use borrow.Author.Tests.{lt-ltb, le-ltb, le-leb, lt-leb, eq-eqb, ne_eqb}
 use Rattle.std.specs.Ordering.{nat_cmp, is_lt}
 use Rattle.std.specs.Cmp.Lexicographic.{slice_cmp}
 use Rattle.std.specs.List.{list_any, list_all, sum_by, All}
@@ -95,6 +95,42 @@ module _ (cells : List ℕ) (w v : ℕ) where
       let g = row-clear k first before at e in
       let wide : suc k * w ≡ w + k * w = omega (arith, suc-mul k w) in
       rw (wide, part-append at w (k * w) cells) (high-append (part at w cells) (part (at + w) (k * w) cells) g.0 (rows-low k false at (at + w) g.3))
+
+-- ---- 7, code by code
+
+-- The order of two lists, where both have gone past their first i numbers: the first two that differ decide, and else the lengths do.
+order-here : (x y : ℕ) (xs ys : List ℕ) → (x ≡ y → ⊥) → is_lt (slice_cmp nat_cmp (x ∷ xs) (y ∷ ys)) ≡ ltb x y
+order-here x y xs ys n =
+    elim (dec_lt x y) [
+      | yes h ↦ rw (lt-ltb x y h)
+      | no h ↦ rw (le-ltb x y (omega arith), ne_eqb x y n)
+    ]
+
+order-next : (x y : ℕ) (xs ys : List ℕ) → x ≡ y → is_lt (slice_cmp nat_cmp (x ∷ xs) (y ∷ ys)) ≡ is_lt (slice_cmp nat_cmp xs ys)
+order-next x y xs ys e = rw (le-ltb x y (omega arith), eq-eqb x y e)
+
+order-end : (xs ys : List ℕ) → min (length xs) (length ys) ≡ 0 → is_lt (slice_cmp nat_cmp xs ys) ≡ ltb (length xs) (length ys)
+order-end [] [] h = refl
+order-end [] (y ∷ ys) h = sym (lt-ltb 0 (suc (length ys)) (omega arith))
+order-end (x ∷ xs) [] h = sym (le-ltb (suc (length xs)) 0 (omega arith))
+order-end (x ∷ xs) (y ∷ ys) h = absurd (omega arith)
+
+module _ (xs ys : List ℕ) (i : ℕ) where
+  module _ (h : i < length xs) (k : i < length ys) where
+    pub order-differs : (get_or xs i 0 ≡ get_or ys i 0 → ⊥) → is_lt (slice_cmp nat_cmp (drop i xs) (drop i ys)) ≡ ltb (get_or xs i 0) (get_or ys i 0)
+    order-differs n = rw (drop-cons xs i 0 h, drop-cons ys i 0 k) (order-here (get_or xs i 0) (get_or ys i 0) (drop (suc i) xs) (drop (suc i) ys) n)
+
+    pub order-goes_on : get_or xs i 0 ≡ get_or ys i 0 → is_lt (slice_cmp nat_cmp (drop i xs) (drop i ys)) ≡ is_lt (slice_cmp nat_cmp (drop (i + 1) xs) (drop (i + 1) ys))
+    order-goes_on e = rw (drop-cons xs i 0 h, drop-cons ys i 0 k, add-one i) (order-next (get_or xs i 0) (get_or ys i 0) (drop (suc i) xs) (drop (suc i) ys) e)
+
+  pub order-ends : i ≡ min (length xs) (length ys) → is_lt (slice_cmp nat_cmp (drop i xs) (drop i ys)) ≡ ltb (length xs) (length ys)
+  order-ends e =
+      let left : min (length (drop i xs)) (length (drop i ys)) ≡ 0 = omega (arith, length-drop i xs, length-drop i ys) in
+      order-end (drop i xs) (drop i ys) left
+      ∙ elim (dec_lt (length xs) (length ys)) [
+        | yes l ↦ lt-ltb _ _ (omega (arith, length-drop i xs, length-drop i ys)) ∙ sym (lt-ltb _ _ l)
+        | no l ↦ le-ltb _ _ (omega (arith, length-drop i xs, length-drop i ys)) ∙ sym (le-ltb _ _ (omega arith))
+      ]
 
 -- ---- the rows as they are gone through
 

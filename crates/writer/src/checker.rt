@@ -1,5 +1,7 @@
 // The writer's first pass: which refusal the tables meet, and how long their image is. It writes nothing.
 ghost use Rattle.std.specs.Prelude.{◌≡◌, true, false, ◌/◌, ◌≤◌, ◌<◌, length, IfOk};
+ghost use Rattle.std.specs.Ordering.{nat_cmp, is_lt};
+ghost use Rattle.std.specs.Cmp.Lexicographic.{slice_cmp};
 ghost use Rattle.refusals.specs.Refusals.{fault_in};
 ghost use Rattle.tables.specs.Sizes.{most_cells};
 ghost use Rattle.tables.specs.Versions.{blank, version_number};
@@ -30,6 +32,21 @@ fn blank(row: &[u64], version: Version) -> bool
     }
 }
 
+// Whether a row lies strictly above the one before: the first two codes that differ decide, as in the library's order of slices.
+// Written out, since that order is made as a value before it is asked, once for each row.
+fn rises(before: &[u64], row: &[u64]) -> bool
+    ensures { result ≡ is_lt (slice_cmp nat_cmp before.now row.now) }
+{
+    for i in 0..before.len().min(row.len()) {
+        let x = before[i];
+        let y = row[i];
+        if x != y {
+            return x < y;
+        }
+    }
+    before.len() < row.len()
+}
+
 // 10, 21 or 7 for the rows of a table, whose cells these are, to be written in this version.
 pub fn check_rows(cells: &[u64], width: usize, version: Version) -> Result<(), Refusal>
     requires { 0 < width }
@@ -44,7 +61,7 @@ pub fn check_rows(cells: &[u64], width: usize, version: Version) -> Result<(), R
         if blank(row, version) {
             return Err(Refusal::NullRow);
         }
-        if before >= row {
+        if !rises(before, row) {
             return Err(Refusal::RowNotRising);
         }
         before = row;

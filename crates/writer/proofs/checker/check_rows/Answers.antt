@@ -7,10 +7,8 @@ use mathlib.Core.Bool.{true, false, cond}
 use lib.ListN.{length}
 use Rattle.std.specs.Ordering.{nat_cmp, is_lt}
 use Rattle.std.specs.Cmp.Lexicographic.{slice_cmp}
-use Rattle.std.proofs.lemmas.Bool.{not-true, not-false}
 use Rattle.std.specs.Slice.Iter.{chunks_exact_rest}
 use Rattle.tables.specs.Versions.{blank, version_number}
-use Rattle.tables.proofs.RowLaws.{not_less_is}
 use Rattle.writer.specs.Write.{too_high, rows_fault}
 use Rattle.writer.proofs.WriteLaws.{rows_behind, rows-all, rows-come, rows-end}
 use Rattle.writer.proofs.checker.check_rows.Goals.{In-Some}
@@ -45,17 +43,15 @@ pub returns-then-blank : goal.returns-then-blank
 returns-then-blank c =
     sym (here (goal.at.returns-then-blank c).In-Some ∙ rw (sym c.code_high.ensures ∙ c.if-code_high.false, sym c.blank.ensures ∙ c.if-blank.true))
 
-pub returns-then-ge : goal.returns-then-ge
-returns-then-ge c =
-    let flat : is_lt (slice_cmp nat_cmp c.loop-row.before.now c.in-Some.row.now) ≡ false = not-true _ (sym (c.ge.ensures ∙ not_less_is c.loop-row.before.now c.in-Some.row.now) ∙ c.if-ge.true) in
-    sym (here (goal.at.returns-then-ge c).In-Some ∙ rw (sym c.code_high.ensures ∙ c.if-code_high.false, sym c.blank.ensures ∙ c.if-blank.false, flat))
+pub returns-then-not-rises : goal.returns-then-not-rises
+returns-then-not-rises c =
+    sym (here (goal.at.returns-then-not-rises c).In-Some ∙ rw (sym c.code_high.ensures ∙ c.if-code_high.false, sym c.blank.ensures ∙ c.if-blank.false, sym c.rises.ensures ∙ c.if-not-rises.true))
 
 pub loop-row-preserved : goal.loop-row-preserved
 loop-row-preserved c =
-    let rising : is_lt (slice_cmp nat_cmp c.loop-row.before.now c.in-Some.row.now) ≡ true = not-false _ (sym (c.ge.ensures ∙ not_less_is c.loop-row.before.now c.in-Some.row.now) ∙ c.if-ge.false) in
     record {
       size = c.in-Some.ensures.steps.0 ∙ c.loop-row.invariant.size;
-      so_far = here (goal.at.loop-row-preserved c).In-Some ∙ rw (sym c.code_high.ensures ∙ c.if-code_high.false, sym c.blank.ensures ∙ c.if-blank.false, rising);
+      so_far = here (goal.at.loop-row-preserved c).In-Some ∙ rw (sym c.code_high.ensures ∙ c.if-code_high.false, sym c.blank.ensures ∙ c.if-blank.false, sym c.rises.ensures ∙ c.if-not-rises.false);
     }
 
 pub returns : goal.returns
