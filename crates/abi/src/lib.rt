@@ -8,6 +8,7 @@ ghost use Rattle.abi.specs.Words.{schemes_at, catalogue_words, words_of, short_i
 ghost use Rattle.abi.specs.Calls.{make_short, LoadCall, MakeCall, WriteCall};
 
 use tables::Catalogue;
+use verdicts::Verdict;
 
 pub mod lists;
 pub mod streams;
@@ -155,8 +156,9 @@ pub fn harbour_load(
     }
     let loaded = loader::load(image, cells);
     put_catalogue(loaded.unwrap_or(tables::no_tables()), catalogue);
-    put_count(verdicts::looked_of(&loaded), looked);
-    verdicts::number_of(&loaded)
+    let verdict = Verdict::of(&loaded);
+    put_count(verdicts::looked_of(verdict), looked);
+    verdicts::number_of(verdict)
 }
 
 // Makes the catalogue of tables made by hand, whose m, n, schemes and row counts are the front of the lent words.

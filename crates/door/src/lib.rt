@@ -3,6 +3,8 @@
 // The C door: a collector written in C asks whether an image is good.
 ghost use Rattle.door.specs.Door.{Checks};
 
+use verdicts::Verdict;
+
 // How many cells of room are assumed: as many as tables can have.
 const ROOM: usize = 8192;
 
@@ -11,5 +13,5 @@ const ROOM: usize = 8192;
 pub fn harbour_check(image: &[u8]) -> u64
     ensures { Checks image.now result }
 {
-    verdicts::number_of(&loader::scan(image, ROOM))
+    verdicts::number_of(Verdict::of(&loader::scan(image, ROOM)))
 }

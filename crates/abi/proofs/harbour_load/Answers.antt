@@ -27,7 +27,7 @@ pub put_catalogue-requires : goal.put_catalogue-requires
 put_catalogue-requires c = ltb-false _ catalogue_words (enough (goal.at.put_catalogue-requires c).Else-too_few)
 
 pub number_of-requires : goal.number_of-requires
-number_of-requires c = rw c.load-loaded.ensures.answer (scan-near c.args.image.now (length c.args.cells.now))
+number_of-requires c = rw (c.of-verdict.ensures, c.load-loaded.ensures.answer) (scan-near c.args.image.now (length c.args.cells.now))
 
 -- what a load gives, or zeros, is the catalogue of its answer
 zeros_or : (r : Result Catalogue Fault) → result_unwrap_or r no_tables ≡ (loaded_of r).catalogue
@@ -39,4 +39,4 @@ returns c =
     let r = c.load-loaded.result in
     let e : c.unwrap_or.result ≡ (loaded_of r).catalogue = c.unwrap_or.ensures ∙ ap (λ (z : Catalogue). result_unwrap_or r z) c.no_tables.ensures ∙ zeros_or r in
     let w : c.put_catalogue.new.words ≡ put (words_of (loaded_of r).catalogue) c.args.catalogue.now = c.put_catalogue.ensures ∙ ap (λ (z : Catalogue). put (words_of z) c.args.catalogue.now) e in
-    load-done _ _ _ _ (loaded_of r) _ _ _ _ _ (enough (goal.at.returns c).Else-too_few) c.load-loaded.ensures c.number_of.ensures w c.looked_of.ensures c.put_count.ensures
+    load-done _ _ _ _ (loaded_of r) _ _ _ _ _ (enough (goal.at.returns c).Else-too_few) c.load-loaded.ensures (rw c.of-verdict.ensures at c.number_of.ensures) w (rw c.of-verdict.ensures at c.looked_of.ensures) c.put_count.ensures

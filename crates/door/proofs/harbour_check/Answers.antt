@@ -5,8 +5,8 @@ use Rattle.door.specs.Door.{check_of}
 use Rattle.door.proofs.harbour_check.Goals as goal
 
 pub number_of-requires : goal.number_of-requires
-number_of-requires c = rw c.scan.ensures (scan-near c.args.image.now 8192)
+number_of-requires c = rw (c.of.ensures, c.scan.ensures) (scan-near c.args.image.now 8192)
 
 pub returns : goal.returns
 unfolding check_of
-returns c = c.number_of.ensures ∙ rw c.scan.ensures
+returns c = c.number_of.ensures ∙ rw (c.of.ensures, c.scan.ensures)
