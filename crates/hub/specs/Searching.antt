@@ -17,7 +17,7 @@ use Rattle.hub.specs.Promises.{word_sets, listed_keys}
 
 -- The tables that a layout is of.
 abbrev pub world_in : Layout → Tables
-world_in l = world_of l.tables.now.catalogue l.tables.now.cells.now
+world_in l = world_of l.tables.catalogue l.tables.cells.now
 
 -- The listed keys, whose words lie in two slices, ..
 abbrev pub listed_in : Keys → List ℕ
@@ -25,7 +25,7 @@ listed_in k = listed_keys k.low.now k.high.now
 
 -- .. and the sets that they name.
 abbrev pub sets_in : Layout → Keys → List (List ℕ)
-sets_in l k = word_sets l.tables.now.catalogue (listed_in k)
+sets_in l k = word_sets l.tables.catalogue (listed_in k)
 
 -- One of the first k words is this.
 unfoldable pub among : List ℕ → ℕ → ℕ → Bool

@@ -48,8 +48,8 @@ fn records_of(keys: usize) -> usize
 // Whether the trial of the set's own row in table t gives the set back; where it has no row of t, nothing is tried.
 // A set that comes back for each of its rows is maximal, and no other does.
 fn gives_back(layout: &Layout<'_>, key: Key, t: usize) -> bool
-    requires { Named layout.now.tables.now.catalogue (number_of key) × (t < layout.now.tables.now.catalogue.n) }
-    ensures { result ≡ gives_back (world_in layout.now) (set_of layout.now.tables.now.catalogue (number_of key)) t }
+    requires { Named layout.now.tables.catalogue (number_of key) × (t < layout.now.tables.catalogue.n) }
+    ensures { result ≡ gives_back (world_in layout.now) (set_of layout.now.tables.catalogue (number_of key)) t }
 {
     let row = key.row(t) as usize;
     row == 0 || layout.trial(key, Row { table: t, row }).key == key
@@ -58,17 +58,17 @@ fn gives_back(layout: &Layout<'_>, key: Key, t: usize) -> bool
 // Whether a listed key is that of a maximal set: it names rows, and the trial of each of them gives the set back.
 // No test for consistent or connected rows is made; the trials tell.
 fn is_maximal(layout: &Layout<'_>, key: Key) -> bool
-    ensures { result ≡ standing (world_in layout.now) (word_set layout.now.tables.now.catalogue (number_of key)) }
+    ensures { result ≡ standing (world_in layout.now) (word_set layout.now.tables.catalogue (number_of key)) }
 {
-    rows::named(layout.tables, key)
+    rows::named(&layout.tables, key)
         && (0..layout.tables.catalogue.n).all(|t| gives_back(layout, key, t))
 }
 
 // The key of the set that the trial of a row on a maximal set comes to.
 // A row of the set itself gives the set back, so that no trial is made twice.
 fn reached_by(layout: &Layout<'_>, key: Key, row: Row) -> Key
-    requires { Named layout.now.tables.now.catalogue (number_of key) × There layout.now.tables.now.catalogue row.table row.row × Maximal (world_in layout.now) (set_of layout.now.tables.now.catalogue (number_of key)) }
-    ensures { number_of result ≡ key_of bits_per_row (trial (world_in layout.now) (set_of layout.now.tables.now.catalogue (number_of key)) (place_of row)).rows }
+    requires { Named layout.now.tables.catalogue (number_of key) × There layout.now.tables.catalogue row.table row.row × Maximal (world_in layout.now) (set_of layout.now.tables.catalogue (number_of key)) }
+    ensures { number_of result ≡ key_of bits_per_row (trial (world_in layout.now) (set_of layout.now.tables.catalogue (number_of key)) (place_of row)).rows }
 {
     if key.row(row.table) as usize == row.row {
         key
@@ -81,7 +81,7 @@ fn reached_by(layout: &Layout<'_>, key: Key, row: Row) -> Key
 // The keys of the tree lie in the list already, so that a key comes into it by one link. The links lie here, in 262 kB of stack; there is no heap.
 #[derive(Drop)]
 struct HubList<'a> {
-    layout: Layout<'a>,
+    layout: &'a Layout<'a>,
     keys: Keys<'a>,
     count: usize,
     left: [u16; MOST_RECORDS],
@@ -89,13 +89,13 @@ struct HubList<'a> {
     entered: usize,
     ghost counted: { count ≡ length (listed_in keys) },
     ghost within: { entered ≤ count },
-    ghost linked: { ∥ Linked layout.tables.now.catalogue.n keys.low.now keys.high.now left right (records_of entered) ∥₁ },
+    ghost linked: { ∥ Linked layout.now.tables.catalogue.n keys.low.now keys.high.now left right (records_of entered) ∥₁ },
 }
 
 impl<'a> HubList<'a> {
     // A list with no entry in the tree yet.
-    fn new(layout: Layout<'a>, keys: Keys<'a>) -> HubList<'a>
-        ensures { (result.layout ≡ layout.entry) × (result.keys ≡ keys.entry) × (result.entered ≡ 0) }
+    fn new(layout: &'a Layout<'a>, keys: Keys<'a>) -> HubList<'a>
+        ensures { (result.layout.now ≡ layout.now) × (result.keys ≡ keys.entry) × (result.entered ≡ 0) }
     {
         HubList {
             layout,
@@ -110,8 +110,8 @@ impl<'a> HubList<'a> {
     // The empty link of the tree that a search for a key ends at; None where the key has a record.
     // Every search of the check is this one, so that its time does not grow with the list.
     fn link_for(&self, key: Key) -> Option<Link>
-        requires { (0 < self.now.entered) × Low self.now.layout.tables.now.catalogue.n (number_of key) }
-        ensures { let k = records_of self.now.entered in MatchOption result (among (listed_in self.now.keys) k (number_of key) ≡ true) (EndsAt self.now.layout.tables.now.catalogue.n self.now.keys.low.now self.now.keys.high.now self.now.left self.now.right k (number_of key)) }
+        requires { (0 < self.now.entered) × Low self.now.layout.now.tables.catalogue.n (number_of key) }
+        ensures { let k = records_of self.now.entered in MatchOption result (among (listed_in self.now.keys) k (number_of key) ≡ true) (EndsAt self.now.layout.now.tables.catalogue.n self.now.keys.low.now self.now.keys.high.now self.now.left self.now.right k (number_of key)) }
     {
         let links = Links {
             left: &self.left,
@@ -136,7 +136,7 @@ impl<'a> HubList<'a> {
 
     // Whether one of the entered keys is this one: a search of the tree, and for those without a record a look at each.
     fn has(&self, key: Key) -> bool
-        requires { Low self.now.layout.tables.now.catalogue.n (number_of key) }
+        requires { Low self.now.layout.now.tables.catalogue.n (number_of key) }
         ensures { result ≡ among (listed_in self.now.keys) self.now.entered (number_of key) }
     {
         if self.entered == 0 {
@@ -148,10 +148,10 @@ impl<'a> HubList<'a> {
 
     // Whether the next entry repeats an earlier one; if not, it is entered, and comes into the tree where there is a record for it.
     fn enter(&mut self) -> bool
-        requires { (self.old.entered < self.old.count) × Low self.old.layout.tables.now.catalogue.n (get_or (listed_in self.old.keys) self.old.entered 0) }
+        requires { (self.old.entered < self.old.count) × Low self.old.layout.now.tables.catalogue.n (get_or (listed_in self.old.keys) self.old.entered 0) }
         ensures repeats { result ≡ among (listed_in self.old.keys) self.old.entered (get_or (listed_in self.old.keys) self.old.entered 0) }
         ensures entered { result ≡ false → self.new.entered ≡ self.old.entered + 1 }
-        ensures same { (self.new.layout ≡ self.old.layout) × (self.new.keys ≡ self.old.keys) }
+        ensures same { (self.new.layout.now ≡ self.old.layout.now) × (self.new.keys ≡ self.old.keys) }
     {
         let i = self.entered;
         let key = self.keys.at(i);
@@ -175,12 +175,12 @@ impl<'a> HubList<'a> {
     // Entries are judged before any set is looked for that is missing.
     fn first_spoilt(&mut self) -> Option<usize>
         requires { self.old.entered ≡ 0 }
-        ensures first { lowest_of result ≡ lowest_below (length (listed_in self.old.keys)) (spoilt (world_in self.old.layout) (sets_in self.old.layout self.old.keys)) }
+        ensures first { lowest_of result ≡ lowest_below (length (listed_in self.old.keys)) (spoilt (world_in self.old.layout.now) (sets_in self.old.layout.now self.old.keys)) }
         ensures entered { result ≡ None → self.new.entered ≡ self.new.count }
-        ensures same { (self.new.layout ≡ self.old.layout) × (self.new.keys ≡ self.old.keys) }
+        ensures same { (self.new.layout.now ≡ self.old.layout.now) × (self.new.keys ≡ self.old.keys) }
     {
         for i in 0..self.count {
-            if !is_maximal(&self.layout, self.keys.at(i)) || self.enter() {
+            if !is_maximal(self.layout, self.keys.at(i)) || self.enter() {
                 return Some(i);
             }
         }
@@ -189,12 +189,12 @@ impl<'a> HubList<'a> {
 
     // The key of the first set that the trials of all rows on a listed set reach and that is not listed, if there is one.
     fn first_out(&self, key: Key) -> Option<Key>
-        requires { (self.now.entered ≡ self.now.count) × Named self.now.layout.tables.now.catalogue (number_of key) × Maximal (world_in self.now.layout) (set_of self.now.layout.tables.now.catalogue (number_of key)) × Sound (world_in self.now.layout) (sets_in self.now.layout self.now.keys) }
-        ensures { out_of result ≡ answer_of (seek (sets_in self.now.layout self.now.keys) (tried (world_in self.now.layout) (set_of self.now.layout.tables.now.catalogue (number_of key)) (rows (world_in self.now.layout)))) }
+        requires { (self.now.entered ≡ self.now.count) × Named self.now.layout.now.tables.catalogue (number_of key) × Maximal (world_in self.now.layout.now) (set_of self.now.layout.now.tables.catalogue (number_of key)) × Sound (world_in self.now.layout.now) (sets_in self.now.layout.now self.now.keys) }
+        ensures { out_of result ≡ answer_of (seek (sets_in self.now.layout.now self.now.keys) (tried (world_in self.now.layout.now) (set_of self.now.layout.now.tables.catalogue (number_of key)) (rows (world_in self.now.layout.now)))) }
     {
         for j in 0..self.layout.measures.total {
             let row = self.layout.tables.row_at(j);
-            let to = reached_by(&self.layout, key, row);
+            let to = reached_by(self.layout, key, row);
             if !self.has(to) {
                 return Some(to);
             }
@@ -205,8 +205,8 @@ impl<'a> HubList<'a> {
     // The key of the first set not listed that the trials over the listed sets reach, if there is one: entries in the hub's order, and rows in row order.
     // A list that no trial leaves holds every maximal set.
     fn first_missing(&self) -> Option<Key>
-        requires { (self.now.entered ≡ self.now.count) × Sound (world_in self.now.layout) (sets_in self.now.layout self.now.keys) }
-        ensures { out_of result ≡ answer_of (seek (sets_in self.now.layout self.now.keys) (tried_on (world_in self.now.layout) (sets_in self.now.layout self.now.keys))) }
+        requires { (self.now.entered ≡ self.now.count) × Sound (world_in self.now.layout.now) (sets_in self.now.layout.now self.now.keys) }
+        ensures { out_of result ≡ answer_of (seek (sets_in self.now.layout.now self.now.keys) (tried_on (world_in self.now.layout.now) (sets_in self.now.layout.now self.now.keys))) }
     {
         for i in 0..self.count {
             if let Some(key) = self.first_out(self.keys.at(i)) {
@@ -231,13 +231,11 @@ fn judge_none(layout: &Layout<'_>) -> ListVerdict
 }
 
 // The verdict on a list: the entries first, then what their trials reach.
-fn judge(tables: &Tables<'_>, keys: Keys<'_>) -> ListVerdict
-    ensures { told_of (Ok result) ≡ answer_of (verdict (world_of tables.now.catalogue tables.now.cells.now) (word_sets tables.now.catalogue (listed_in keys.entry))) }
+fn judge(layout: &Layout<'_>, keys: Keys<'_>) -> ListVerdict
+    ensures { told_of (Ok result) ≡ answer_of (verdict (world_in layout.now) (sets_in layout.now keys.entry)) }
 {
-    let count = list_length(keys);
-    let layout = Layout::new(tables, count);
-    if count == 0 {
-        return judge_none(&layout);
+    if list_length(keys) == 0 {
+        return judge_none(layout);
     }
     let mut list = HubList::new(layout, keys);
     if let Some(i) = list.first_spoilt() {
@@ -251,7 +249,7 @@ fn judge(tables: &Tables<'_>, keys: Keys<'_>) -> ListVerdict
 
 // Checks the hub's list: whether it holds every maximal set once and nothing else, in any order.
 // Any words may be listed, and the list may have any length. Refusals: those of the catalogue.
-// The tables are made where they stay: so large a value, handed back, is a copy that calls `memcpy`.
+// The tables stay in the layout: see `Layout::new`.
 pub fn check_list(
     cat: Catalogue,
     cells: &[u64],
@@ -261,13 +259,16 @@ pub fn check_list(
     ensures { ChecksList cat cells.now listed_low.now listed_high.now (told_of result) }
 {
     tables::check(cat, cells.len())?;
-    let tables = Tables {
-        catalogue: cat,
-        cells,
-    };
     let keys = Keys {
         low: listed_low,
         high: listed_high,
     };
-    Ok(judge(&tables, keys))
+    let layout = Layout::new(
+        Tables {
+            catalogue: cat,
+            cells,
+        },
+        list_length(keys),
+    );
+    Ok(judge(&layout, keys))
 }

@@ -35,12 +35,11 @@ pub struct Measures {
 }
 
 // Checked tables with what trials go by: worked out once, it serves every trial of a call.
-// It refers to the tables. With them in it, it would be so large that LLVM copies it by `memcpy`, which the archive for C would want from outside.
 #[derive(Clone, Copy)]
 pub struct Layout<'a> {
-    pub tables: &'a Tables<'a>,
+    pub tables: Tables<'a>,
     pub measures: Measures,
-    ghost laid_out: { LaidOut tables.now.catalogue tables.now.cells.now measures },
+    ghost laid_out: { LaidOut tables.catalogue tables.cells.now measures },
 }
 
 // A row set under way in a trial: its key, and as a mask the tables that have a row in it.
@@ -50,8 +49,8 @@ struct RowSet<'a> {
     layout: &'a Layout<'a>,
     key: Key,
     tables: u64,
-    ghost named: { Named layout.now.tables.now.catalogue (number_of key) },
-    ghost members: { TablesOf (set_of layout.now.tables.now.catalogue (number_of key)) tables },
+    ghost named: { Named layout.now.tables.catalogue (number_of key) },
+    ghost members: { TablesOf (set_of layout.now.tables.catalogue (number_of key)) tables },
 }
 
 // What a set has to share with other rows: its merged row, and the tables that touch one of its rows'.
@@ -83,61 +82,85 @@ fn measured(tables: &Tables<'_>) -> Measures
     }
 }
 
-impl<'a> Layout<'a> {
-    ghost use Rattle.sets.specs.Layouts.{world, rows_of, IsTable};
+impl Measures {
+    ghost use Rattle.sets.specs.Layouts.{IsTable};
 
-    // The layout of these tables, for at most this many trials.
+    // The measures of the tables, for at most this many trials. They refer to nothing, and may outlive the tables.
     // The columns are looked at only where there are trials enough to pay for it; else no table is known to rise, and each is walked row by row.
-    pub fn new(tables: &'a Tables<'a>, trials: usize) -> Layout<'a>
-        ensures { result.tables.now ≡ tables.now }
+    // Never inlined, so that `Layout::new`, which calls it, is short enough to be.
+    #[inline(never)]
+    pub fn new(tables: &Tables<'_>, trials: usize) -> Measures
+        ensures { LaidOut tables.now.catalogue tables.now.cells.now result }
     {
         let measures = measured(tables);
-        let layout = Layout { tables, measures };
         if trials < 16 || trials < measures.total / 16 {
-            return layout;
+            return measures;
         }
-        let rising = layout.rising_tables();
-        Layout {
-            tables,
-            measures: Measures { rising, ..measures },
-        }
+        let rising = measures.rising_tables(tables);
+        Measures { rising, ..measures }
     }
 
-    // The rows of table t.
+    // The rows of table t of the tables that were measured.
     #[inline]
-    fn rows(&self, t: usize) -> Rows<'a>
-        requires { t < self.now.tables.now.catalogue.n }
-        ensures { IsTable self.now t result }
+    fn rows<'a>(&self, tables: &Tables<'a>, t: usize) -> Rows<'a>
+        requires laid_out { LaidOut tables.now.catalogue tables.now.cells.now self.now }
+        requires table { t < tables.now.catalogue.n }
+        ensures { IsTable tables.now t result }
     {
-        let catalogue = &self.tables.catalogue;
+        let catalogue = &tables.catalogue;
         Rows {
-            cells: self.tables.cells,
+            cells: tables.cells,
             scheme: catalogue.schemes[t],
-            width: self.measures.widths[t] as usize,
+            width: self.widths[t] as usize,
             base: catalogue.places[t] as usize,
             count: catalogue.rows[t] as usize,
-            rises: words::bit_of(self.measures.rising, t),
+            rises: words::bit_of(self.rising, t),
         }
     }
 
     // The tables whose first column does not fall, as a mask.
     // Tables from an image are all among them, since their rows rise.
-    fn rising_tables(&self) -> u64
-        ensures { RisingIn self.now.tables.now.catalogue self.now.tables.now.cells.now result }
+    fn rising_tables(&self, tables: &Tables<'_>) -> u64
+        requires { LaidOut tables.now.catalogue tables.now.cells.now self.now }
+        ensures { RisingIn tables.now.catalogue tables.now.cells.now result }
     {
         let mut rising: u64 = 0;
-        for t in 0..self.tables.catalogue.n {
-            if self.rows(t).first_rises() {
+        for t in 0..tables.catalogue.n {
+            if self.rows(tables, t).first_rises() {
                 rising |= 1 << t;
             }
         }
         rising
     }
+}
+
+impl<'a> Layout<'a> {
+    ghost use Rattle.sets.specs.Layouts.{world, rows_of, IsTable};
+
+    // The layout of these tables, for at most this many trials.
+    // In line, where it is called, LLVM lays the tables down where the layout stays. By themselves values so large go from hand to hand by copies that call
+    // `memcpy`, which the archive for C would then want from outside.
+    #[inline]
+    pub fn new(tables: Tables<'a>, trials: usize) -> Layout<'a>
+        ensures { result.tables ≡ tables.entry }
+    {
+        let measures = Measures::new(&tables, trials);
+        Layout { tables, measures }
+    }
+
+    // The rows of table t.
+    #[inline]
+    fn rows(&self, t: usize) -> Rows<'a>
+        requires { t < self.now.tables.catalogue.n }
+        ensures { IsTable self.now.tables t result }
+    {
+        self.measures.rows(&self.tables, t)
+    }
 
     // The set of a key, with its tables.
     // A key is gone through once for it, and after that only the tables of the mask are.
     fn set(&self, key: Key) -> RowSet<'_>
-        requires { Named self.now.tables.now.catalogue (number_of key) }
+        requires { Named self.now.tables.catalogue (number_of key) }
         ensures { (result.layout.now ≡ self.now) × (result.key ≡ key) }
     {
         let mut tables: u64 = 0;
@@ -155,8 +178,8 @@ impl<'a> Layout<'a> {
 
     // The extension of a key's set; `near` says which row of a table to look at first.
     pub fn extend(&self, from: Key, near: usize) -> Grown
-        requires { Named self.now.tables.now.catalogue (number_of from) }
-        ensures { Comes self.now.tables.now.catalogue (extension (world_of self.now.tables.now.catalogue self.now.tables.now.cells.now) (set_of self.now.tables.now.catalogue (number_of from))) (number_of result.key) result.tests }
+        requires { Named self.now.tables.catalogue (number_of from) }
+        ensures { Comes self.now.tables.catalogue (extension (world_of self.now.tables.catalogue self.now.tables.cells.now) (set_of self.now.tables.catalogue (number_of from))) (number_of result.key) result.tests }
     {
         self.set(from).extended(near)
     }
@@ -164,8 +187,8 @@ impl<'a> Layout<'a> {
     // "Trial of row s on set T: drop ..; add s; keep the piece that holds s; extend."
     // The search for the set it comes to is the caller's, who has the store.
     pub fn trial(&self, key: Key, row: Row) -> Grown
-        requires { Named self.now.tables.now.catalogue (number_of key) × There self.now.tables.now.catalogue row.table row.row }
-        ensures { Comes self.now.tables.now.catalogue (trial (world_of self.now.tables.now.catalogue self.now.tables.now.cells.now) (set_of self.now.tables.now.catalogue (number_of key)) (place_of row)) (number_of result.key) result.tests }
+        requires { Named self.now.tables.catalogue (number_of key) × There self.now.tables.catalogue row.table row.row }
+        ensures { Comes self.now.tables.catalogue (trial (world_of self.now.tables.catalogue self.now.tables.cells.now) (set_of self.now.tables.catalogue (number_of key)) (place_of row)) (number_of result.key) result.tests }
     {
         self.set(key).kept(row).piece(row).extended(row.row - 1)
     }
@@ -187,9 +210,9 @@ impl Touch {
 
     // Adds a row of the tables.
     fn add(&mut self, layout: &Layout<'_>, row: Row)
-        requires { There layout.now.tables.now.catalogue row.table row.row }
-        ensures merged { Added layout.now.tables.now.cells.now (scheme_of layout.now.tables.now.catalogue row.table) (row_start layout.now.tables.now.catalogue row.table row.row) self.old.merged.attrs self.old.merged.codes self.new.merged.codes self.new.merged.attrs }
-        ensures reach { self.new.reach ≡ bit_or self.old.reach (mask_in layout.now.tables.now.catalogue row.table) }
+        requires { There layout.now.tables.catalogue row.table row.row }
+        ensures merged { Added layout.now.tables.cells.now (scheme_of layout.now.tables.catalogue row.table) (row_start layout.now.tables.catalogue row.table row.row) self.old.merged.attrs self.old.merged.codes self.new.merged.codes self.new.merged.attrs }
+        ensures reach { self.new.reach ≡ bit_or self.old.reach (mask_in layout.now.tables.catalogue row.table) }
     {
         self.merged.add(&layout.rows(row.table), row.row - 1);
         self.reach |= layout.tables.catalogue.touching[row.table] as u64;
@@ -203,7 +226,7 @@ impl<'a> RowSet<'a> {
     #[inline]
     fn row(&self, u: usize) -> Row
         requires { bit_of self.now.tables u ≡ true }
-        ensures { (result.table ≡ u) × (result.row ≡ at (rows_of self.now) u) × There self.now.layout.now.tables.now.catalogue u result.row }
+        ensures { (result.table ≡ u) × (result.row ≡ at (rows_of self.now) u) × There self.now.layout.now.tables.catalogue u result.row }
     {
         Row {
             table: u,
@@ -216,8 +239,8 @@ impl<'a> RowSet<'a> {
     // listing takes up to 8 % more steps.
     fn share(&self, touch: &mut Touch)
         requires { (touch.old.merged.attrs ≡ 0) × (touch.old.reach ≡ 0) }
-        ensures merged { Merged self.now.layout.now.tables.now.catalogue self.now.layout.now.tables.now.cells.now (at (rows_of self.now)) touch.new.merged.codes touch.new.merged.attrs }
-        ensures reach { Reach self.now.layout.now.tables.now.catalogue (at (rows_of self.now)) touch.new.reach }
+        ensures merged { Merged self.now.layout.now.tables.catalogue self.now.layout.now.tables.cells.now (at (rows_of self.now)) touch.new.merged.codes touch.new.merged.attrs }
+        ensures reach { Reach self.now.layout.now.tables.catalogue (at (rows_of self.now)) touch.new.reach }
     {
         for u in words::bits(self.tables) {
             touch.add(self.layout, self.row(u));
@@ -231,7 +254,7 @@ impl<'a> RowSet<'a> {
     // it are in reach from then on. All tests are counted, those of the tables passed over too, by how many rows lie before a table, and so the count is the
     // rule's. `near` says which row of a table to look at first.
     fn extended(&self, near: usize) -> Grown
-        ensures { Comes self.now.layout.now.tables.now.catalogue (extension (world self.now.layout.now) (rows_of self.now)) (number_of result.key) result.tests }
+        ensures { Comes self.now.layout.now.tables.catalogue (extension (world self.now.layout.now) (rows_of self.now)) (number_of result.key) result.tests }
     {
         let layout = self.layout;
         let mut touch = Touch::none();
@@ -263,7 +286,7 @@ impl<'a> RowSet<'a> {
 
     // The set with a row of the tables in place of its own of that table.
     fn with(&self, x: Row) -> RowSet<'a>
-        requires { There self.now.layout.now.tables.now.catalogue x.table x.row }
+        requires { There self.now.layout.now.tables.catalogue x.table x.row }
         ensures layout { result.layout.now ≡ self.now.layout.now }
         ensures rows { rows_of result ≡ add_row (rows_of self.now) (place_of x) }
         ensures tables { result.tables ≡ bit_or self.now.tables (2 ^ x.table) }
@@ -297,7 +320,7 @@ impl<'a> RowSet<'a> {
     // The tables of the set whose row has to go: it is another table's than x's, and not consistent with x.
     // Only those that touch x's table are asked. The row of x is made a merged row, which has a code where it is asked for at once.
     fn parted(&self, x: Row) -> u64
-        requires { There self.now.layout.now.tables.now.catalogue x.table x.row }
+        requires { There self.now.layout.now.tables.catalogue x.table x.row }
         ensures { (u : ℕ) → bit_of result u ≡ parts (world self.now.layout.now) (rows_of self.now) (place_of x) u }
     {
         let layout = self.layout;
@@ -316,7 +339,7 @@ impl<'a> RowSet<'a> {
     // "Drop from T every row of s's table other than s and every row of another table not consistent with s; add s."
     // The row comes in first, and then what does not fit it goes.
     fn kept(&self, x: Row) -> RowSet<'a>
-        requires { There self.now.layout.now.tables.now.catalogue x.table x.row }
+        requires { There self.now.layout.now.tables.catalogue x.table x.row }
         ensures layout { result.layout.now ≡ self.now.layout.now }
         ensures rows { rows_of result ≡ dropped (world self.now.layout.now) (rows_of self.now) (place_of x) }
     {
@@ -326,7 +349,7 @@ impl<'a> RowSet<'a> {
     // "Keep the piece that holds s": from x alone, tables of the set that touch what is there are added until there is none, and the rows of those left go.
     // The order in which they come in makes no difference, as there is one piece only; and where none is left, the piece is the set.
     fn piece(&self, x: Row) -> RowSet<'a>
-        requires there { There self.now.layout.now.tables.now.catalogue x.table x.row }
+        requires there { There self.now.layout.now.tables.catalogue x.table x.row }
         requires here { at (rows_of self.now) x.table ≡ x.row }
         ensures layout { result.layout.now ≡ self.now.layout.now }
         ensures rows { rows_of result ≡ piece (world self.now.layout.now) (rows_of self.now) (place_of x) }

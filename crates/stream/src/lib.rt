@@ -137,7 +137,7 @@ impl Scope {
 }
 
 // Opens a stream of what is asked for: the first row, or the row asked for, alone and extended, becomes record 0 of the store.
-// Everything is checked before that record is written. The tables are made where they stay: so large a value, handed back, is a copy that calls `memcpy`.
+// Everything is checked before that record is written. The tables stay in the layout: see `Layout::new`.
 pub fn open_for(
     cat: Catalogue,
     cells: &[u64],
@@ -150,11 +150,15 @@ pub fn open_for(
     ensures { opened_for (asked_of scope) result low.new high.new left.new right.new ≡ opening_for cat cells.now (asked_of scope) low.old high.old left.old right.old }
 {
     tables::check(cat, cells.len())?;
-    let tables = Tables {
-        catalogue: cat,
-        cells,
-    };
-    if scope.is_stray(&tables) {
+    let layout = Layout::new(
+        Tables {
+            catalogue: cat,
+            cells,
+        },
+        1,
+    );
+    let tables = &layout.tables;
+    if scope.is_stray(tables) {
         return Err(Refusal::NoSuchRow);
     }
     let mut stream = StreamRecord {
@@ -174,9 +178,9 @@ pub fn open_for(
     if store.room() == 0 {
         return Err(Refusal::FullStore);
     }
-    let first = scope.first(&tables);
+    let first = scope.first(tables);
     let alone = Key::none().with_row(first.table, first.row as u64);
-    let grown = Layout::new(&tables, 1).extend(alone, 0);
+    let grown = layout.extend(alone, 0);
     store.file_record(0, grown.key);
     stream.found = 1;
     Ok(Opened {
@@ -245,7 +249,7 @@ fn check_record(
 }
 
 // The refusal that a call meets before work: 4, 5, 6, 8; 13; 11. Where it meets none, these are tables.
-// It doesn't give them: so large a value, handed back, is a copy that calls `memcpy`.
+// It does not give them: so large a value, handed back, is a copy by `memcpy` (see `Layout::new`).
 fn check_call(
     cat: Catalogue,
     cells: &[u64],
@@ -273,14 +277,14 @@ fn trial(
     s: StreamRecord,
     scope: Scope,
 ) -> Result<Done, Refusal>
-    requires { Fit layout.now.tables.now.catalogue (stream_in (asked_of scope) s store.old) × (s.next_row < total layout.now.tables.now.catalogue) }
-    ensures refusal { IfErr result (λ refusal. number refusal ≡ refused_by (trial_on layout.now.tables.now.catalogue layout.now.tables.now.cells.now (stream_in (asked_of scope) s store.old))) }
-    ensures did { IfOk result (Did layout.now.tables.now (asked_of scope) s store.old store.new) }
+    requires { Fit layout.now.tables.catalogue (stream_in (asked_of scope) s store.old) × (s.next_row < total layout.now.tables.catalogue) }
+    ensures refusal { IfErr result (λ refusal. number refusal ≡ refused_by (trial_on layout.now.tables.catalogue layout.now.tables.cells.now (stream_in (asked_of scope) s store.old))) }
+    ensures did { IfOk result (Did layout.now.tables (asked_of scope) s store.old store.new) }
     ensures no_mark { OnErr result (NoMark store.old store.new) }
     ensures same { SameSlices store.old store.new }
 {
     let key = store.key_at(s.taken - 1);
-    if !rows::named(layout.tables, key) {
+    if !rows::named(&layout.tables, key) {
         return Err(Refusal::DamagedStore);
     }
     let row = layout.tables.row_at(s.next_row);
@@ -349,8 +353,8 @@ fn work(
     budget: usize,
     padded: &mut [u64],
 ) -> Stepped<StreamRecord>
-    requires { Fit layout.now.tables.now.catalogue (stream_in (asked_of scope) from store.old) × (layout.now.tables.now.catalogue.m ≤ length padded.old) }
-    ensures work { called_in (asked_of scope) result store.new padded.new ≡ work layout.now.tables.now.catalogue layout.now.tables.now.cells.now budget (stream_in (asked_of scope) from store.old) padded.old }
+    requires { Fit layout.now.tables.catalogue (stream_in (asked_of scope) from store.old) × (layout.now.tables.catalogue.m ≤ length padded.old) }
+    ensures work { called_in (asked_of scope) result store.new padded.new ≡ work layout.now.tables.catalogue layout.now.tables.cells.now budget (stream_in (asked_of scope) from store.old) padded.old }
     ensures same { SameSlices store.old store.new }
 {
     let mut stream = from;
@@ -380,7 +384,7 @@ fn work(
             }
         }
     }
-    hand_out(layout.tables, store, stream, counts, padded)
+    hand_out(&layout.tables, store, stream, counts, padded)
 }
 
 // One call of a stream of what is asked for, with a budget of trials, the record by value.
@@ -407,12 +411,14 @@ pub fn step_for(
     };
     match check_call(cat, cells, &store, stream, scope, padded) {
         Ok(()) => {
-            // Behind the check these are tables. They are made where they stay, as the layout only refers to them.
-            let tables = Tables {
-                catalogue: cat,
-                cells,
-            };
-            let layout = Layout::new(&tables, budget);
+            // Behind the check these are tables.
+            let layout = Layout::new(
+                Tables {
+                    catalogue: cat,
+                    cells,
+                },
+                budget,
+            );
             work(&layout, &mut store, stream, scope, budget, padded)
         }
         Err(refusal) => Stepped {

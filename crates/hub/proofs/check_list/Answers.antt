@@ -6,8 +6,8 @@ use Rattle.tables.proofs.CheckLaws.{fault-lawful}
 use Rattle.hub.proofs.JudgingLaws.{checked_refused, checked-lawful}
 use Rattle.hub.proofs.check_list.Goals as goal
 
-pub invariant_of-tables : goal.invariant_of-tables
-invariant_of-tables c = record { lawful = fault-lawful _ _ (sym c.in_ok-check.ensures) }
+pub invariant_of-new : goal.invariant_of-new
+invariant_of-new c = record { lawful = fault-lawful _ _ (sym c.in_ok-check.ensures) }
 
 pub returns-in_err-check : goal.returns-in_err-check
 returns-in_err-check c =
@@ -15,4 +15,4 @@ returns-in_err-check c =
     rw (p.1, p.2) (sym (checked_refused _ _ _ _ c.in_err-check.ensures (number-some _)))
 
 pub returns : goal.returns
-returns c = c.judge.ensures ∙ sym (checked-lawful _ _ _ (sym c.in_ok-check.ensures))
+returns c = (rw c.new-layout.ensures at c.judge.ensures) ∙ sym (checked-lawful _ _ _ (sym c.in_ok-check.ensures))

@@ -9,7 +9,7 @@ use Rattle.hub.proofs.gives_back.Goals as goal
 pub returns-then-row-eq0 : goal.returns-then-row-eq0
 returns-then-row-eq0 c =
     let z = c.if-row-eq0.true in
-    eq-eqb _ _ z ∙ sym (gives_none _ _ _ c.args.layout.now.tables.now.lawful _ _ c.requires.1 (sym c.row-row.ensures ∙ z))
+    eq-eqb _ _ z ∙ sym (gives_none _ _ _ c.args.layout.now.tables.lawful _ _ c.requires.1 (sym c.row-row.ensures ∙ z))
 
 pub trial-requires : goal.trial-requires
 trial-requires c =
@@ -22,4 +22,4 @@ returns-else-row-eq0 c =
     let p = c.requires in
     let e = c.row-row.ensures in
     same-as c.trial.result.key c.args.key (omega arith) (omega arith) refl c.eq.ensures
-    ∙ sym (gives-tried _ _ _ c.args.layout.now.tables.now.lawful _ _ p.0 p.1 _ _ (rw e at c.trial.ensures) (omega (arith, e, c.if-row-eq0.false)))
+    ∙ sym (gives-tried _ _ _ c.args.layout.now.tables.lawful _ _ p.0 p.1 _ _ (rw e at c.trial.ensures) (omega (arith, e, c.if-row-eq0.false)))

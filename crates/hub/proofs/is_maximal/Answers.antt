@@ -21,11 +21,11 @@ all-requires-clause-callable c =
 pub returns-then-named : goal.returns-then-named
 returns-then-named c =
     let l = c.args.layout.now in
-    let p = gives_back (world_in l) (set_of l.tables.now.catalogue (number_of c.args.key)) in
-    all_from_yields_List p _ _ _ c.all.ensures.ran (YieldsList-from_range 0 l.tables.now.catalogue.n l.tables.now.catalogue.n refl (sub-zero _)) (λ x b q k. search (rules, tests))
-    ∙ all-below p l.tables.now.catalogue.n
-    ∙ sym (named-standing _ _ _ l.tables.now.lawful _ (sym c.named.ensures ∙ c.if-named.true))
+    let p = gives_back (world_in l) (set_of l.tables.catalogue (number_of c.args.key)) in
+    all_from_yields_List p _ _ _ c.all.ensures.ran (YieldsList-from_range 0 l.tables.catalogue.n l.tables.catalogue.n refl (sub-zero _)) (λ x b q k. search (rules, tests))
+    ∙ all-below p l.tables.catalogue.n
+    ∙ sym (named-standing _ _ _ l.tables.lawful _ (sym c.named.ensures ∙ c.if-named.true))
 
 pub returns-else-named : goal.returns-else-named
 returns-else-named c =
-    c.if-named.false ∙ sym (lost-standing _ _ _ c.args.layout.now.tables.now.lawful _ (sym c.named.ensures ∙ c.if-named.false))
+    c.if-named.false ∙ sym (lost-standing _ _ _ c.args.layout.now.tables.lawful _ (sym c.named.ensures ∙ c.if-named.false))

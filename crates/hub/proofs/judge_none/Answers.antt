@@ -10,7 +10,7 @@ use Rattle.hub.proofs.JudgingLaws.{none_right, none-missing, number-whole}
 use Rattle.hub.proofs.judge_none.Goals as goal
 
 pub returns-then-layout-eq0 : goal.returns-then-layout-eq0
-returns-then-layout-eq0 c = sym (none_right _ _ _ c.args.layout.now.tables.now.lawful (sym c.args.layout.now.laid_out.all ∙ c.if-layout-eq0.true))
+returns-then-layout-eq0 c = sym (none_right _ _ _ c.args.layout.now.tables.lawful (sym c.args.layout.now.laid_out.all ∙ c.if-layout-eq0.true))
 
 pub row_at-first-requires : goal.row_at-first-requires
 row_at-first-requires c = omega (arith, c.args.layout.now.laid_out.all, c.if-layout-eq0.false)
@@ -18,18 +18,18 @@ row_at-first-requires c = omega (arith, c.args.layout.now.laid_out.all, c.if-lay
 pub with_row-alone-requires : goal.with_row-alone-requires
 with_row-alone-requires c =
     let l = c.args.layout.now in
-    let x = place-there l.tables.now.catalogue l.tables.now.cells.now 0 (omega (arith, l.laid_out.all, c.if-layout-eq0.false)) in
-    rw c.row_at-first.ensures (omega (arith, x.table, l.tables.now.lawful.tables), row_small _ _ l.tables.now.lawful _ _ x)
+    let x = place-there l.tables.catalogue l.tables.cells.now 0 (omega (arith, l.laid_out.all, c.if-layout-eq0.false)) in
+    rw c.row_at-first.ensures (omega (arith, x.table, l.tables.lawful.tables), row_small _ _ l.tables.lawful _ _ x)
 
 pub extend-requires : goal.extend-requires
 extend-requires c =
     let l = c.args.layout.now in
-    let x = place-there l.tables.now.catalogue l.tables.now.cells.now 0 (omega (arith, l.laid_out.all, c.if-layout-eq0.false)) in
-    rw (c.with_row-alone.ensures, c.none.ensures, c.row_at-first.ensures) (alone-named _ _ _ x (row_small _ _ l.tables.now.lawful _ _ x))
+    let x = place-there l.tables.catalogue l.tables.cells.now 0 (omega (arith, l.laid_out.all, c.if-layout-eq0.false)) in
+    rw (c.with_row-alone.ensures, c.none.ensures, c.row_at-first.ensures) (alone-named _ _ _ x (row_small _ _ l.tables.lawful _ _ x))
 
 pub returns : goal.returns
 returns c =
     let l = c.args.layout.now in
-    let h : 0 < total l.tables.now.catalogue = omega (arith, l.laid_out.all, c.if-layout-eq0.false) in
-    let g = rw (c.with_row-alone.ensures, c.none.ensures, c.row_at-first.ensures, first_alone l.tables.now.catalogue l.tables.now.cells.now _ l.tables.now.lawful h) at c.extend.ensures in
-    ap Missing (sym (number-whole c.extend.result.key (omega arith))) ∙ ap (λ (x : ℕ). Missing (key_with x)) g.key ∙ sym (none-missing _ _ _ l.tables.now.lawful h)
+    let h : 0 < total l.tables.catalogue = omega (arith, l.laid_out.all, c.if-layout-eq0.false) in
+    let g = rw (c.with_row-alone.ensures, c.none.ensures, c.row_at-first.ensures, first_alone l.tables.catalogue l.tables.cells.now _ l.tables.lawful h) at c.extend.ensures in
+    ap Missing (sym (number-whole c.extend.result.key (omega arith))) ∙ ap (λ (x : ℕ). Missing (key_with x)) g.key ∙ sym (none-missing _ _ _ l.tables.lawful h)

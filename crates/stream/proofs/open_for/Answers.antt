@@ -19,8 +19,8 @@ use Rattle.stream.specs.Parts.{opened_for}
 use Rattle.stream.proofs.open_for.Goals.{Else-is_stray, Else-stream-eq0, After-first-first}
 use Rattle.stream.proofs.open_for.Goals as goal
 
-pub invariant_of-tables : goal.invariant_of-tables
-invariant_of-tables c = record { lawful = fault-lawful _ _ (sym c.in_ok-check.ensures) }
+pub invariant_of-new : goal.invariant_of-new
+invariant_of-new c = record { lawful = fault-lawful _ _ (sym c.in_ok-check.ensures) }
 
 pub returns-in_err-check : goal.returns-in_err-check
 returns-in_err-check c =
@@ -30,21 +30,21 @@ returns-in_err-check c =
 
 pub returns-then-is_stray : goal.returns-then-is_stray
 returns-then-is_stray c =
-    sym (opening-refused _ _ _ _ _ _ _ 19 (open-stray _ _ _ _ (fault-lawful _ _ (sym c.in_ok-check.ensures)) (sym c.is_stray.ensures ∙ c.if-is_stray.true)) (λ z. omega arith))
+    sym (opening-refused _ _ _ _ _ _ _ 19 (open-stray _ _ _ _ (fault-lawful _ _ (sym c.in_ok-check.ensures)) (sym (rw c.new-layout.ensures at c.is_stray.ensures) ∙ c.if-is_stray.true)) (λ z. omega arith))
 
 -- The tables are lawful, and the row asked for is there.
 checked : (c : Else-is_stray) → Lawful c.args.cat (length c.args.cells.now) × Askable c.args.cat (asked_of c.args.scope)
-checked c = (fault-lawful _ _ (sym c.in_ok-check.ensures), (stray-iff _ _).0 (sym c.is_stray.ensures ∙ c.if-is_stray.false))
+checked c = (fault-lawful _ _ (sym c.in_ok-check.ensures), (stray-iff _ _).0 (sym (rw c.new-layout.ensures at c.is_stray.ensures) ∙ c.if-is_stray.false))
 
 pub returns-then-stream-eq0 : goal.returns-then-stream-eq0
 returns-then-stream-eq0 c =
     let p = checked (goal.at.returns-then-stream-eq0 c).Else-is_stray in
-    let z = sym c.total_rows.ensures ∙ c.if-stream-eq0.true in
+    let z = sym (rw c.new-layout.ensures at c.total_rows.ensures) ∙ c.if-stream-eq0.true in
     rw c.if-stream-eq0.true (sym (opening-empty _ _ _ _ _ _ _ (open_free _ _ _ _ p.0 p.1 (λ h. absurd (omega (arith, z)))) z))
 
 -- There are rows.
 some : (c : Else-stream-eq0) → 0 < total c.args.cat
-some c = omega (arith, c.total_rows.ensures, c.if-stream-eq0.false)
+some c = omega (arith, rw c.new-layout.ensures at c.total_rows.ensures, c.if-stream-eq0.false)
 
 pub returns-then-room-eq0 : goal.returns-then-room-eq0
 returns-then-room-eq0 c =
@@ -56,13 +56,13 @@ pub first-first-requires : goal.first-first-requires
 first-first-requires c =
     let p = checked (goal.at.first-first-requires c).Else-is_stray in
     let h = some (goal.at.first-first-requires c).Else-stream-eq0 in
-    (p.1, h)
+    rw c.new-layout.ensures (p.1, h)
 
 -- The row that the stream begins with is there, and a key has room for it.
 begins : (c : After-first-first) → There c.args.cat c.first-first.result.table c.first-first.result.row × (c.first-first.result.row < 2 ^ bits_per_row)
 begins c =
     let p = checked (goal.at-After-first-first c).Else-is_stray in
-    let x = c.first-first.ensures.there in
+    let x = rw c.new-layout.ensures at c.first-first.ensures.there in
     (x, row_small _ _ p.0 _ _ x)
 
 pub with_row-alone-requires : goal.with_row-alone-requires
@@ -74,7 +74,7 @@ with_row-alone-requires c =
 pub extend-grown-requires : goal.extend-grown-requires
 extend-grown-requires c =
     let b = begins (goal.at.extend-grown-requires c).After-first-first in
-    rw (c.new.ensures, c.with_row-alone.ensures, c.none.ensures) (alone-named _ _ _ b.0 b.1)
+    rw (c.new-layout.ensures, c.with_row-alone.ensures, c.none.ensures) (alone-named _ _ _ b.0 b.1)
 
 pub returns : goal.returns
 unfolding filed
@@ -84,13 +84,14 @@ returns c =
     let h = some (goal.at.returns c).Else-stream-eq0 in
     let b = begins (goal.at.returns c).After-first-first in
     let e = alone-set a.cat a.cells.now c.first-first.result.table c.first-first.result.row b.0 b.1 in
-    let g = rw (c.new.ensures, c.with_row-alone.ensures, c.none.ensures, e) at c.extend-grown.ensures in
+    let g = rw (c.new-layout.ensures, c.with_row-alone.ensures, c.none.ensures, e) at c.extend-grown.ensures in
     let o = c.file_record.ensures.holds in
     let u = open_free a.cat _ (asked_of a.scope) (store_in a.low.now a.high.now a.left.now a.right.now 0) p.0 p.1 (λ z. omega (arith, c.room.ensures, c.if-room-eq0.false)) in
+    let i = rw c.new-layout.ensures at c.first-first.ensures.first in
     let new = c.file_record.new.self in
     let f : opened_for (asked_of a.scope) (Ok (record { stream = record { found = 1; taken = 0; next_row = c.total_rows.result }; tests = c.extend-grown.result.tests }))
     new.low.now new.high.now new.left.now new.right.now ≡ opening_for a.cat a.cells.now (asked_of a.scope) a.low.now a.high.now a.left.now a.right.now =
-    rw (o.low, o.high, o.left, o.right, g.key, g.tests, c.total_rows.ensures)
-    (rw (← c.first-first.ensures.first) at (sym (opening-begun a.cat a.cells.now (asked_of a.scope) a.low.now a.high.now a.left.now a.right.now u h)))
+    rw (o.low, o.high, o.left, o.right, g.key, g.tests, c.total_rows.ensures, c.new-layout.ensures)
+    (rw (← i) at (sym (opening-begun a.cat a.cells.now (asked_of a.scope) a.low.now a.high.now a.left.now a.right.now u h)))
     in
     grind (arith, common_steps)

@@ -10,8 +10,8 @@ use Rattle.stream.specs.Parts.{called_in}
 use Rattle.stream.proofs.StreamLaws.{number-none}
 use Rattle.stream.proofs.step_for.Goals as goal
 
-pub invariant_of-tables : goal.invariant_of-tables
-invariant_of-tables c = record { lawful = c.in-Ok.ensures.tables }
+pub invariant_of-new : goal.invariant_of-new
+invariant_of-new c = record { lawful = c.in-Ok.ensures.tables }
 
 pub work-requires : goal.work-requires
 work-requires c =

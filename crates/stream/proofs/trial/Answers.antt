@@ -19,28 +19,28 @@ use Rattle.stream.proofs.trial.Goals as goal
 pub returns-then-not-named-clause-refusal : goal.returns-then-not-named-clause-refusal
 returns-then-not-named-clause-refusal c =
     let a = c.args in
-    sym (ap refused_by (trial-lost a.layout.now.tables.now.catalogue a.layout.now.tables.now.cells.now (stream_in (asked_of a.scope) a.s a.store.now) (rw c.key_at-key.ensures at (sym c.named.ensures ∙ c.if-not-named.true))))
+    sym (ap refused_by (trial-lost a.layout.now.tables.catalogue a.layout.now.tables.cells.now (stream_in (asked_of a.scope) a.s a.store.now) (rw c.key_at-key.ensures at (sym c.named.ensures ∙ c.if-not-named.true))))
 
 pub trial-grown-requires : goal.trial-grown-requires
 trial-grown-requires c =
     let p = c.before.requires in
-    ((named-iff _ _).0 (sym c.named.ensures ∙ c.if-not-named.false), rw c.row_at-row.ensures (place-there _ c.args.layout.now.tables.now.cells.now _ p.1))
+    ((named-iff _ _).0 (sym c.named.ensures ∙ c.if-not-named.false), rw c.row_at-row.ensures (place-there _ c.args.layout.now.tables.cells.now _ p.1))
 
 -- Behind the test of what is asked for, its answer is the rule's.
 wanted-had : (c : After-wants)
     → let a = c.args in
-    c.wants.result ≡ wanted (asked_of a.scope) (trial_had a.layout.now.tables.now.catalogue a.layout.now.tables.now.cells.now (stream_in (asked_of a.scope) a.s a.store.now)).rows
+    c.wants.result ≡ wanted (asked_of a.scope) (trial_had a.layout.now.tables.catalogue a.layout.now.tables.cells.now (stream_in (asked_of a.scope) a.s a.store.now)).rows
 wanted-had c =
     let a = c.args in
     c.wants.ensures
-    ∙ key-wanted a.layout.now.tables.now.catalogue (asked_of a.scope) _ c.requires.0.asked
+    ∙ key-wanted a.layout.now.tables.catalogue (asked_of a.scope) _ c.requires.0.asked
     ∙ ap (wanted (asked_of a.scope)) (rw (c.row_at-row.ensures, c.key_at-key.ensures) at c.trial-grown.ensures.rows)
 
 pub returns-else-wants-clause-did : goal.returns-else-wants-clause-did
 returns-else-wants-clause-did c =
     let a = c.args in
     let y = c.key_at-key.ensures in
-    trial-unsought a.layout.now.tables.now.catalogue a.layout.now.tables.now.cells.now (stream_in (asked_of a.scope) a.s a.store.now) _ c.requires.1
+    trial-unsought a.layout.now.tables.catalogue a.layout.now.tables.cells.now (stream_in (asked_of a.scope) a.s a.store.now) _ c.requires.1
     (rw y at (sym c.named.ensures ∙ c.if-not-named.false))
     (sym (wanted-had (goal.at.returns-else-wants-clause-did c).After-wants) ∙ c.if-wants.false)
     (rw (c.row_at-row.ensures, y) at c.trial-grown.ensures.tests)
@@ -56,7 +56,7 @@ placed_by c =
 ends : (c : After-offer)
     → let a = c.args in
     let q = stream_in (asked_of a.scope) a.s a.store.now in
-    trial_on a.layout.now.tables.now.catalogue a.layout.now.tables.now.cells.now q
+    trial_on a.layout.now.tables.catalogue a.layout.now.tables.cells.now q
     ≡ placed q c.trial-grown.result.tests (placed_by c)
     (store_in c.offer.new.self.low.now c.offer.new.self.high.now c.offer.new.self.left.now c.offer.new.self.right.now (found_after a.s.found (placed_by c)))
 ends c =
@@ -65,7 +65,7 @@ ends c =
     let e = c.row_at-row.ensures in
     let y = c.key_at-key.ensures in
     rw c.bits-deepest.ensures
-    (offer-trial a.layout.now.tables.now.catalogue a.layout.now.tables.now.cells.now (stream_in (asked_of a.scope) a.s a.store.now) _ _ _ _ _ _ _ c.requires.1
+    (offer-trial a.layout.now.tables.catalogue a.layout.now.tables.cells.now (stream_in (asked_of a.scope) a.s a.store.now) _ _ _ _ _ _ _ c.requires.1
     (rw y at (sym c.named.ensures ∙ c.if-not-named.false))
     (sym (wanted-had (goal.at-After-offer c).After-wants) ∙ c.if-wants.true) (rw (e, y) at g.key) (rw (e, y) at g.tests)
     (record { answer = refl; after = rw c.bits-deepest.ensures at c.offer.ensures.holds }))

@@ -25,8 +25,8 @@ returns-then-counts-budget-clause-work c =
 goes : (c : In-Ok)
     → let l = c.loop-next_row in
     let a = c.args in
-    let cat = a.layout.now.tables.now.catalogue in
-    let cells = a.layout.now.tables.now.cells.now in
+    let cat = a.layout.now.tables.catalogue in
+    let cells = a.layout.now.tables.cells.now in
     let q = stream_in (asked_of a.scope) (record { found = c.in-Ok.done.found; taken = l.stream.taken; next_row = l.next_row + 1 }) c.trial.new.store in
     (Fit cat q)
     × (work cat cells a.budget (stream_in (asked_of a.scope) a.from a.store.now) a.padded.now
@@ -36,8 +36,8 @@ goes c =
     let l = c.loop-next_row in
     let i = l.invariant in
     let a = c.args in
-    let cat = a.layout.now.tables.now.catalogue in
-    let cells = a.layout.now.tables.now.cells.now in
+    let cat = a.layout.now.tables.catalogue in
+    let cells = a.layout.now.tables.cells.now in
     let q = stream_in (asked_of a.scope) l.stream l.store in
     let n = a.layout.now.laid_out.all in
     let e : trial_on cat cells q
@@ -55,7 +55,7 @@ small : (c : In-Ok)
     (l.counts.trials + 1 ≤ most_total) × (l.counts.tests + c.in-Ok.done.tests ≤ most_total * most_tests) × (l.counts.looks + c.in-Ok.done.looks ≤ most_total * most_looks)
 small c =
     let a = c.args in
-    counts-small a.layout.now.tables.now.catalogue a.layout.now.tables.now.cells.now a.padded.now a.layout.now.tables.now.lawful a.budget _ c.requires.0 _ _ _ _ (goes c).1
+    counts-small a.layout.now.tables.catalogue a.layout.now.tables.cells.now a.padded.now a.layout.now.tables.lawful a.budget _ c.requires.0 _ _ _ _ (goes c).1
 
 pub overflow_add-counts-in-Ok : goal.overflow_add-counts-in-Ok
 overflow_add-counts-in-Ok c = omega (arith, (small (goal.at.overflow_add-counts-in-Ok c).In-Ok).1)

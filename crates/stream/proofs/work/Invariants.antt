@@ -8,8 +8,8 @@ use Rattle.stream.proofs.work.Given as goal
 
 abbrev pub invariant-loop-next_row : goal.invariant-loop-next_row
 invariant-loop-next_row l =
-    let cat = l.layout.tables.now.catalogue in
-    let cells = l.layout.tables.now.cells.now in
+    let cat = l.layout.tables.catalogue in
+    let cells = l.layout.tables.cells.now in
     let asked = asked_of l.scope in
     record {
       place : l.stream.next_row ≡ l.next_row;

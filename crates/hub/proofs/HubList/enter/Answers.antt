@@ -39,8 +39,8 @@ invariant_of-self c =
       linked = ∥∥₁_map s.linked
           (λ l.
           ⊎_elim
-          (λ z. enters-first s.layout.tables.now.catalogue.n s.keys.low.now s.keys.high.now s.left s.right s.entered l b c.requires.1 z)
-          (λ z. enters-late s.layout.tables.now.catalogue.n s.keys.low.now s.keys.high.now s.left s.right s.entered l b c.requires.1 z.1) c.then-i-eq0.either);
+          (λ z. enters-first s.layout.now.tables.catalogue.n s.keys.low.now s.keys.high.now s.left s.right s.entered l b c.requires.1 z)
+          (λ z. enters-late s.layout.now.tables.catalogue.n s.keys.low.now s.keys.high.now s.left s.right s.entered l b c.requires.1 z.1) c.then-i-eq0.either);
     }
 
 pub returns-then-i-eq0-clause-repeats : goal.returns-then-i-eq0-clause-repeats
@@ -72,7 +72,7 @@ invariant_of-self-2 c =
       within = omega (arith, c.requires.0);
       linked = ∥∥₁_map s.linked
           (λ l.
-          enters-new s.layout.tables.now.catalogue.n s.keys.low.now s.keys.high.now s.left s.right s.entered l b c.requires.1 (omega (arith, c.if-i-eq0.false)) c.if-i-ge-MOST_RECORDS.false
+          enters-new s.layout.now.tables.catalogue.n s.keys.low.now s.keys.high.now s.left s.right s.entered l b c.requires.1 (omega (arith, c.if-i-eq0.false)) c.if-i-ge-MOST_RECORDS.false
           c.in-Some.link.place c.in-Some.link.right e.looks c.hang.new.left c.hang.new.right
           (rw (own (goal.at.invariant_of-self-2 c).After-at-key) at e.search) c.hang.ensures);
     }

@@ -24,14 +24,14 @@ own c = key-own c.args.self.now.keys.low.now c.args.self.now.keys.high.now _ (th
 pub first_out-requires : goal.first_out-requires
 first_out-requires c =
     let s = c.args.self.now in
-    let t = s.layout.tables.now in
+    let t = s.layout.now.tables in
     let b = (goal.at.first_out-requires c).After-at in
     (c.requires.0, rw (own b) (entry_named t.catalogue t.cells.now _ t.lawful (listed_in s.keys) c.requires.1 _ (there b)), rw (own b) (set-maximal t.catalogue t.cells.now _ t.lawful (listed_in s.keys) c.requires.1 _ (there b)), c.requires.1)
 
 pub returns-in-Some : goal.returns-in-Some
 returns-in-Some c =
     let s = c.args.self.now in
-    let t = s.layout.tables.now in
+    let t = s.layout.now.tables in
     let b = (goal.at.returns-in-Some c).After-at in
     sym
     (ap answer_of c.loop-i.invariant
@@ -40,7 +40,7 @@ returns-in-Some c =
 pub loop-i-preserved : goal.loop-i-preserved
 loop-i-preserved c =
     let s = c.args.self.now in
-    let t = s.layout.tables.now in
+    let t = s.layout.now.tables in
     let b = (goal.at.loop-i-preserved c).After-at in
     c.loop-i.invariant
     ∙ missing-on t.catalogue t.cells.now _ t.lawful (listed_in s.keys) c.requires.1 _ (there b) (sym (rw (own b) at c.in_default.ensures))
@@ -48,7 +48,7 @@ loop-i-preserved c =
 pub returns : goal.returns
 returns c =
     let s = c.args.self.now in
-    let t = s.layout.tables.now in
+    let t = s.layout.now.tables in
     let n = s.counted in
     sym
     (ap answer_of

@@ -7,6 +7,6 @@ use Rattle.hub.proofs.HubList.first_missing.Given as goal
 
 abbrev pub invariant-loop-i : goal.invariant-loop-i
 invariant-loop-i l =
-    let W = world_in l.self.layout in
-    let sets = sets_in l.self.layout l.self.keys in
+    let W = world_in l.self.layout.now in
+    let sets = sets_in l.self.layout.now l.self.keys in
     seek sets (tried_on W sets) ≡ seek sets (tried_on W (drop l.i sets))

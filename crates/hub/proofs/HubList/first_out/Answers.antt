@@ -20,28 +20,28 @@ use Rattle.hub.proofs.HubList.first_out.Goals as goal
 
 pub reached_by-to-requires : goal.reached_by-to-requires
 reached_by-to-requires c =
-    let t = c.args.self.now.layout.tables.now in
-    let l : c.loop-j.j < total t.catalogue = omega (arith, c.args.self.now.layout.laid_out.all, c.loop-j-test.true) in
+    let t = c.args.self.now.layout.now.tables in
+    let l : c.loop-j.j < total t.catalogue = omega (arith, c.args.self.now.layout.now.laid_out.all, c.loop-j-test.true) in
     (c.requires.1, rw c.row_at-row.ensures (place-there t.catalogue t.cells.now _ l), c.requires.2)
 
 -- The row at place j is there,
-low : (c : After-reached_by-to) → c.loop-j.j < total c.args.self.now.layout.tables.now.catalogue
-low c = omega (arith, c.args.self.now.layout.laid_out.all, c.loop-j-test.true)
+low : (c : After-reached_by-to) → c.loop-j.j < total c.args.self.now.layout.now.tables.catalogue
+low c = omega (arith, c.args.self.now.layout.now.laid_out.all, c.loop-j-test.true)
 
 -- and its trial comes to this key.
 comes : (c : After-reached_by-to)
-    → let l = c.args.self.now.layout in
-    number_of c.reached_by-to.result ≡ key_of bits_per_row (trial (world_in l) (set_of l.tables.now.catalogue (number_of c.args.key)) (row_at (world_in l) c.loop-j.j)).rows
+    → let l = c.args.self.now.layout.now in
+    number_of c.reached_by-to.result ≡ key_of bits_per_row (trial (world_in l) (set_of l.tables.catalogue (number_of c.args.key)) (row_at (world_in l) c.loop-j.j)).rows
 comes c =
-    let l = c.args.self.now.layout in
+    let l = c.args.self.now.layout.now in
     (rw c.row_at-row.ensures at c.reached_by-to.ensures)
-    ∙ ap (λ (p : Place). key_of bits_per_row (trial (world_in l) (set_of l.tables.now.catalogue (number_of c.args.key)) p).rows) (sym (row-place l.tables.now.catalogue l.tables.now.cells.now _ (low c)))
+    ∙ ap (λ (p : Place). key_of bits_per_row (trial (world_in l) (set_of l.tables.catalogue (number_of c.args.key)) p).rows) (sym (row-place l.tables.catalogue l.tables.cells.now _ (low c)))
 
 pub has-requires : goal.has-requires
 has-requires c =
     let s = c.args.self.now in
     let b = (goal.at.has-requires c).After-reached_by-to in
-    row_low s.layout.tables.now.catalogue s.layout.tables.now.cells.now _ s.layout.tables.now.lawful (listed_in s.keys) c.requires.3 _ c.requires.2 _ _ (low b) (comes b)
+    row_low s.layout.now.tables.catalogue s.layout.now.tables.cells.now _ s.layout.now.tables.lawful (listed_in s.keys) c.requires.3 _ c.requires.2 _ _ (low b) (comes b)
 
 -- It is sought among all entries.
 sought : (c : After-reached_by-to) (r : Bool) → r ≡ among (listed_in c.args.self.now.keys) c.args.self.now.entered (number_of c.reached_by-to.result)
@@ -53,7 +53,7 @@ sought c r e =
 pub returns-then-not-has : goal.returns-then-not-has
 returns-then-not-has c =
     let s = c.args.self.now in
-    let t = s.layout.tables.now in
+    let t = s.layout.now.tables in
     let b = (goal.at.returns-then-not-has c).After-reached_by-to in
     sym
     (ap answer_of c.loop-j.invariant
@@ -64,7 +64,7 @@ returns-then-not-has c =
 pub loop-j-preserved : goal.loop-j-preserved
 loop-j-preserved c =
     let s = c.args.self.now in
-    let t = s.layout.tables.now in
+    let t = s.layout.now.tables in
     let b = (goal.at.loop-j-preserved c).After-reached_by-to in
     c.loop-j.invariant
     ∙ tries-on t.catalogue t.cells.now _ t.lawful (listed_in s.keys) c.requires.3 _ c.requires.2 _ _ (low b) (comes b)
@@ -73,8 +73,8 @@ loop-j-preserved c =
 pub returns : goal.returns
 returns c =
     let s = c.args.self.now in
-    let t = s.layout.tables.now in
-    let n = s.layout.laid_out.all in
+    let t = s.layout.now.tables in
+    let n = s.layout.now.laid_out.all in
     sym
     (ap answer_of
     (c.loop-j.invariant

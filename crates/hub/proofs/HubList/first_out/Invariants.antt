@@ -10,6 +10,6 @@ use Rattle.hub.proofs.HubList.first_out.Given as goal
 
 abbrev pub invariant-loop-j : goal.invariant-loop-j
 invariant-loop-j l =
-    let W = world_in l.self.layout in
-    let T = set_of l.self.layout.tables.now.catalogue (number_of l.key) in
-    seek (sets_in l.self.layout l.self.keys) (tried W T (rows W)) ≡ seek (sets_in l.self.layout l.self.keys) (tried W T (drop l.j (rows W)))
+    let W = world_in l.self.layout.now in
+    let T = set_of l.self.layout.now.tables.catalogue (number_of l.key) in
+    seek (sets_in l.self.layout.now l.self.keys) (tried W T (rows W)) ≡ seek (sets_in l.self.layout.now l.self.keys) (tried W T (drop l.j (rows W)))

@@ -36,13 +36,13 @@ own c =
 
 -- Whether its set is maximal,
 stands : (c : After-is_maximal) → c.is_maximal.result
-    ≡ standing (world_in c.args.self.now.layout) (word_set c.args.self.now.layout.tables.now.catalogue (get_or (listed_in c.args.self.now.keys) c.loop-i.i 0))
+    ≡ standing (world_in c.args.self.now.layout.now) (word_set c.args.self.now.layout.now.tables.catalogue (get_or (listed_in c.args.self.now.keys) c.loop-i.i 0))
 stands c = rw (c.loop-i.invariant.layout, own c) at c.is_maximal.ensures
 
 pub enter-requires : goal.enter-requires
 enter-requires c =
     let s = c.loop-i.self in
-    let t = s.layout.tables.now in
+    let t = s.layout.now.tables in
     let i = c.loop-i.invariant.entered in (
       omega (arith, c.loop-i-test.true, i, count s c.args.self.now c.loop-i.invariant.keys),
       rw (i, c.loop-i.invariant.keys, ← own (goal.at.enter-requires c).After-is_maximal)
@@ -52,23 +52,23 @@ enter-requires c =
 -- and then whether it repeats an earlier one.
 repeats : (c : After-is_maximal) (r : Bool) → c.is_maximal.result ≡ true
     → r ≡ among (listed_in c.loop-i.self.keys) c.loop-i.self.entered (get_or (listed_in c.loop-i.self.keys) c.loop-i.self.entered 0)
-    → spoilt (world_in c.args.self.now.layout) (sets_in c.args.self.now.layout c.args.self.now.keys) c.loop-i.i ≡ r
+    → spoilt (world_in c.args.self.now.layout.now) (sets_in c.args.self.now.layout.now c.args.self.now.keys) c.loop-i.i ≡ r
 repeats c r y e =
     let s = c.args.self.now in
-    let t = s.layout.tables.now in
+    let t = s.layout.now.tables in
     spoilt-new t.catalogue t.cells.now _ t.lawful (listed_in s.keys) c.loop-i.i (sym (stands c) ∙ y) ∙ sym (rw (c.loop-i.invariant.entered, c.loop-i.invariant.keys) at e)
 
 pub returns-then-not-is_maximal-clause-first : goal.returns-then-not-is_maximal-clause-first
 returns-then-not-is_maximal-clause-first c =
     let s = c.args.self.now in
-    let t = s.layout.tables.now in
+    let t = s.layout.now.tables in
     let b = (goal.at.returns-then-not-is_maximal-clause-first c).After-is_maximal in
-    let spoilt-here : spoilt (world_in s.layout) (sets_in s.layout s.keys) c.loop-i.i ≡ true =
+    let spoilt-here : spoilt (world_in s.layout.now) (sets_in s.layout.now s.keys) c.loop-i.i ≡ true =
     elim c.then-not-is_maximal.branch [
       | then-not-is_maximal-via-then-not-is_maximal w ↦ spoilt-lost t.catalogue t.cells.now _ t.lawful (listed_in s.keys) c.loop-i.i (sym (stands b) ∙ w.if-not-is_maximal.true)
       | then-not-is_maximal-via-else-not-is_maximal+then-enter w ↦ repeats b true w.if-not-is_maximal.false (sym w.if-enter.true ∙ w.enter.ensures.repeats)
     ] in
-    sym (lowest-at (length (listed_in s.keys)) (spoilt (world_in s.layout) (sets_in s.layout s.keys)) c.loop-i.i (there b) spoilt-here c.loop-i.invariant.clean)
+    sym (lowest-at (length (listed_in s.keys)) (spoilt (world_in s.layout.now) (sets_in s.layout.now s.keys)) c.loop-i.i (there b) spoilt-here c.loop-i.invariant.clean)
 
 pub loop-i-preserved : goal.loop-i-preserved
 loop-i-preserved c =
@@ -84,4 +84,4 @@ loop-i-preserved c =
 pub returns-clause-first : goal.returns-clause-first
 returns-clause-first c =
     let s = c.args.self.now in
-    sym (lowest-none (length (listed_in s.keys)) (spoilt (world_in s.layout) (sets_in s.layout s.keys)) (λ u b. c.loop-i.invariant.clean u (omega (arith, b, s.counted, c.loop-i-test.false))))
+    sym (lowest-none (length (listed_in s.keys)) (spoilt (world_in s.layout.now) (sets_in s.layout.now s.keys)) (λ u b. c.loop-i.invariant.clean u (omega (arith, b, s.counted, c.loop-i-test.false))))

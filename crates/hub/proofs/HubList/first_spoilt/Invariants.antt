@@ -9,7 +9,7 @@ use Rattle.hub.proofs.HubList.first_spoilt.Given as goal
 abbrev pub invariant-loop-i : goal.invariant-loop-i
 invariant-loop-i l = record {
   entered : l.self.entered ≡ l.i;
-  layout : l.self.layout ≡ l.fn.self.layout;
+  layout : l.self.layout.now ≡ l.fn.self.layout.now;
   keys : l.self.keys ≡ l.fn.self.keys;
-  clean : (v : ℕ) → v < l.i → spoilt (world_in l.fn.self.layout) (sets_in l.fn.self.layout l.fn.self.keys) v ≡ false;
+  clean : (v : ℕ) → v < l.i → spoilt (world_in l.fn.self.layout.now) (sets_in l.fn.self.layout.now l.fn.self.keys) v ≡ false;
 }

@@ -12,14 +12,14 @@ find-requires c =
     let e = c.records_of.ensures in
     let w = c.args.self.now.within in
     let n = c.args.self.now.counted in
-    (omega (arith, e, c.requires.0), omega (arith, e, w, n, keys_length c.args.self.now.keys.low.now c.args.self.now.keys.high.now), omega (arith, c.bits-bits.ensures, c.args.self.now.layout.tables.now.lawful.tables))
+    (omega (arith, e, c.requires.0), omega (arith, e, w, n, keys_length c.args.self.now.keys.low.now c.args.self.now.keys.high.now), omega (arith, c.bits-bits.ensures, c.args.self.now.layout.now.tables.lawful.tables))
 
 -- What the search says of the keys that have a record.
 tells : (c : After-find) → Tells (listed_in c.args.self.now.keys) (records_of c.args.self.now.entered) (number_of c.args.key) (looked_of c.find.result)
 tells c =
     let s = c.args.self.now in
     rw (c.find.ensures, c.records_of.ensures, c.bits-bits.ensures)
-    (tree-tells s.layout.tables.now.catalogue.n s.keys.low.now s.keys.high.now s.left s.right (records_of s.entered) (number_of c.args.key) s.linked (omega (arith, c.requires.0)) (omega (arith, s.within, s.counted)) c.requires.1)
+    (tree-tells s.layout.now.tables.catalogue.n s.keys.low.now s.keys.high.now s.left s.right (records_of s.entered) (number_of c.args.key) s.linked (omega (arith, c.requires.0)) (omega (arith, s.within, s.counted)) c.requires.1)
 
 pub returns-in-Ok-Absent : goal.returns-in-Ok-Absent
 returns-in-Ok-Absent c =

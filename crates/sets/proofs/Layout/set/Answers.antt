@@ -14,7 +14,7 @@ loop-u-init c = marked-none _
 
 pub loop-u-preserved : goal.loop-u-preserved
 loop-u-preserved c =
-    let t = c.args.self.now.tables.now in
+    let t = c.args.self.now.tables in
     let b = c.loop-u-test.true in
     let own = in-at bits_per_row t.catalogue.n (number_of c.args.key) c.loop-u.u b ∙ sym c.row.ensures in
     elim c.if-row-ne0.branch [
@@ -26,7 +26,7 @@ loop-u-preserved c =
 
 pub invariant_of-result : goal.invariant_of-result
 invariant_of-result c =
-    let n = c.args.self.now.tables.now.catalogue.n in
+    let n = c.args.self.now.tables.catalogue.n in
     record {
       named = c.requires;
       members = marked-end _ _ c.loop-u.u c.loop-u.invariant (λ v h. in-past bits_per_row n (number_of c.args.key) v (omega (arith, h)));

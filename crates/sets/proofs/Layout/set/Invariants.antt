@@ -5,4 +5,4 @@ use Rattle.sets.proofs.LackingLaws.{Marked}
 use Rattle.sets.proofs.Layout.set.Given as goal
 
 abbrev pub invariant-loop-u : goal.invariant-loop-u
-invariant-loop-u l = Marked (rows_in bits_per_row l.self.tables.now.catalogue.n (number_of l.key)) l.tables l.u
+invariant-loop-u l = Marked (rows_in bits_per_row l.self.tables.catalogue.n (number_of l.key)) l.tables l.u

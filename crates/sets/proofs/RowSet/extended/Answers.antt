@@ -33,12 +33,12 @@ both : (a : After-lowest-table)
 both a =
     and_split _ _ (sym (bit-and a.loop-live.live a.rounds.touch.reach a.lowest-table.result) ∙ a.lowest-table.ensures.itself)
 
-turn : (a : After-lowest-table) → a.lowest-table.result < a.args.self.now.layout.now.tables.now.catalogue.n
+turn : (a : After-lowest-table) → a.lowest-table.result < a.args.self.now.layout.now.tables.catalogue.n
 turn a = a.loop-live.invariant.0.tables _ (both a).0
 
 -- the bit of the table
 bit : (a : After-lowest-table) → 1 * 2 ^ a.lowest-table.result % 2 ^ 64 ≡ 2 ^ a.lowest-table.result
-bit a = one_shl a.lowest-table.result (omega (arith, turn a, a.args.self.now.layout.now.tables.now.lawful.tables))
+bit a = one_shl a.lowest-table.result (omega (arith, turn a, a.args.self.now.layout.now.tables.lawful.tables))
 
 -- without it fewer are live
 fewer : (a : After-lowest-table) → a.loop-live.live - 1 * 2 ^ a.lowest-table.result % 2 ^ 64 < a.loop-live.live
@@ -47,16 +47,16 @@ fewer a = rw (bit a) (less-lt _ _ (both a).0)
 -- the tests of the rounds so far
 few : (l : At-loop-live) → l.rounds.tests ≤ most_tests
 few l =
-    let t = l.args.self.now.layout.now.tables.now in
+    let t = l.args.self.now.layout.now.tables in
     growing-few t.catalogue t.cells.now _ t.lawful _ l.args.self.now.named _ _ _ _ l.rounds.invariant.growing
 
 -- the answer is the first of its rows that the row test admits
 looked : (f : After-first_fit)
-    → FirstIn (count_of f.args.self.now.layout.now.tables.now.catalogue f.lowest-table.result)
-    (tested f.args.self.now.layout.now.tables.now.catalogue f.args.self.now.layout.now.tables.now.cells.now (number_of f.rounds.key) f.lowest-table.result)
-    (unwrap_or f.first_fit.result (count_of f.args.self.now.layout.now.tables.now.catalogue f.lowest-table.result))
+    → FirstIn (count_of f.args.self.now.layout.now.tables.catalogue f.lowest-table.result)
+    (tested f.args.self.now.layout.now.tables.catalogue f.args.self.now.layout.now.tables.cells.now (number_of f.rounds.key) f.lowest-table.result)
+    (unwrap_or f.first_fit.result (count_of f.args.self.now.layout.now.tables.catalogue f.lowest-table.result))
 looked f =
-    let t = f.args.self.now.layout.now.tables.now in
+    let t = f.args.self.now.layout.now.tables in
     let v = f.rounds.invariant in
     let b = both (goal.at-After-first_fit f).After-lowest-table in
     let r = f.rows.ensures in
@@ -65,20 +65,20 @@ looked f =
 
 -- a row that was found is the first, and it is there
 found : (i : In-Some)
-    → FirstIn (count_of i.args.self.now.layout.now.tables.now.catalogue i.lowest-table.result)
-    (tested i.args.self.now.layout.now.tables.now.catalogue i.args.self.now.layout.now.tables.now.cells.now (number_of i.rounds.key) i.lowest-table.result) i.in-Some.i
+    → FirstIn (count_of i.args.self.now.layout.now.tables.catalogue i.lowest-table.result)
+    (tested i.args.self.now.layout.now.tables.catalogue i.args.self.now.layout.now.tables.cells.now (number_of i.rounds.key) i.lowest-table.result) i.in-Some.i
 found i = rw i.in-Some.is at (looked (goal.at-In-Some i).After-first_fit)
 
-high : (i : In-Some) → i.in-Some.i < count_of i.args.self.now.layout.now.tables.now.catalogue i.lowest-table.result
+high : (i : In-Some) → i.in-Some.i < count_of i.args.self.now.layout.now.tables.catalogue i.lowest-table.result
 high i = omega (arith, i.in-Some.ensures.there, i.rows.ensures.count)
 
-there : (i : In-Some) → There i.args.self.now.layout.now.tables.now.catalogue i.lowest-table.result (i.in-Some.i + 1)
+there : (i : In-Some) → There i.args.self.now.layout.now.tables.catalogue i.lowest-table.result (i.in-Some.i + 1)
 there i = record { table = turn (goal.at-In-Some i).After-lowest-table; low = omega arith; high = omega (arith, high i) }
 
 pub rounds-init : goal.rounds-init
 rounds-init c =
     let s = c.args.self.now in
-    let t = s.layout.now.tables.now in
+    let t = s.layout.now.tables in
     record {
       growing = growing-start _ _ _ t.lawful _ s.named _ _ c.share.ensures.merged;
       shut = shut-start _ _ _ _ _ (one_shl _ (omega (arith, t.lawful.tables))) s.members;
@@ -93,7 +93,7 @@ rows-requires c = turn (goal.at.rows-requires c).After-lowest-table
 
 pub first_fit-requires : goal.first_fit-requires
 first_fit-requires c =
-    let t = c.args.self.now.layout.now.tables.now in
+    let t = c.args.self.now.layout.now.tables in
     let v = c.rounds.invariant in
     let b = both (goal.at.first_fit-requires c).After-lowest-table in
     let n = open-shares t.catalogue t.cells.now _ _ c.loop-live.invariant.0 _ t.lawful _ _ b.0 b.1 v.reach _ _ v.growing.merged in
@@ -101,7 +101,7 @@ first_fit-requires c =
 
 pub loop-live-preserved : goal.loop-live-preserved
 loop-live-preserved c =
-    let t = c.args.self.now.layout.now.tables.now in
+    let t = c.args.self.now.layout.now.tables in
     let a = (goal.at.loop-live-preserved c).After-lowest-table in
     let b = both a in (
       shut-walked t.catalogue t.cells.now _ _ c.loop-live.invariant.0 _ t.lawful _ _ _ c.rounds.invariant.reach b.0 b.1
@@ -114,27 +114,13 @@ add-requires c = there (goal.at.add-requires c).In-Some
 
 pub with_row-key-requires : goal.with_row-key-requires
 with_row-key-requires c =
-    let t = c.args.self.now.layout.now.tables.now in
+    let t = c.args.self.now.layout.now.tables in
     (omega (arith, turn (goal.at.with_row-key-requires c).After-lowest-table, t.lawful.tables), row_small _ _ t.lawful _ _ (there (goal.at.with_row-key-requires c).In-Some))
-
-pub bounds-layout-hit : goal.bounds-layout-hit
-bounds-layout-hit c = omega (arith, turn (goal.at.bounds-layout-hit c).After-lowest-table, c.args.self.now.layout.now.tables.now.lawful.tables)
-
-pub overflow_add-tests : goal.overflow_add-tests
-overflow_add-tests c =
-    let s = c.args.self.now.layout.now in
-    let t = s.tables.now in
-    omega (
-      arith,
-      laid-small t.catalogue _ t.lawful t.cells.now _ s.laid_out _ (turn (goal.at.overflow_add-tests c).After-lowest-table),
-      high (goal.at.overflow_add-tests c).In-Some,
-      t.lawful.rows _ (turn (goal.at.overflow_add-tests c).After-lowest-table),
-    )
 
 pub overflow_add-tests-in-rounds : goal.overflow_add-tests-in-rounds
 overflow_add-tests-in-rounds c =
     let s = c.args.self.now.layout.now in
-    let t = s.tables.now in
+    let t = s.tables in
     omega (
       arith,
       few (goal.at.overflow_add-tests-in-rounds c).At-loop-live,
@@ -146,7 +132,7 @@ overflow_add-tests-in-rounds c =
 pub rounds-preserved : goal.rounds-preserved
 rounds-preserved c =
     let s = c.args.self.now in
-    let t = s.layout.now.tables.now in
+    let t = s.layout.now.tables in
     let v = c.rounds.invariant in
     let a = (goal.at.rounds-preserved c).After-lowest-table in
     let w = (goal.at.rounds-preserved c).In-Some in
@@ -166,13 +152,13 @@ rounds-preserved c =
 pub overflow_add-result : goal.overflow_add-result
 overflow_add-result c =
     let s = c.args.self.now.layout.now in
-    let t = s.tables.now in
+    let t = s.tables in
     omega (arith, few (goal.at.overflow_add-result c).At-loop-live, s.laid_out.all, rows_few t.catalogue _ t.lawful t.catalogue.n (omega arith))
 
 pub returns : goal.returns
 returns c =
     let s = c.args.self.now in
-    let t = s.layout.now.tables.now in
+    let t = s.layout.now.tables in
     let r = c.rounds in
     let z : r.tests + rows_before t.catalogue t.catalogue.n ≡ r.tests + s.layout.now.measures.total = omega (arith, s.layout.now.laid_out.all) in
     subst (λ (x : ℕ). Comes t.catalogue (extension (world s.layout.now) (rows_of s)) (number_of r.key) x) z

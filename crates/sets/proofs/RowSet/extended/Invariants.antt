@@ -12,7 +12,7 @@ use Rattle.sets.proofs.RowSet.extended.Given as goal
 
 abbrev pub invariant-loop-live : goal.invariant-loop-live
 invariant-loop-live l =
-    let t = l.self.layout.now.tables.now in
+    let t = l.self.layout.now.tables in
     Shut t.catalogue t.cells.now (number_of l.key) l.live × (l.live ≤ l.initial.live)
 
 abbrev pub decreases-loop-live : goal.decreases-loop-live
@@ -20,7 +20,7 @@ decreases-loop-live l = l.live
 
 abbrev pub invariant-rounds : goal.invariant-rounds
 invariant-rounds l =
-    let t = l.self.layout.now.tables.now in
+    let t = l.self.layout.now.tables in
     record {
       growing : Growing t.catalogue t.cells.now (number_of l.self.key) (number_of l.key) l.touch.merged.attrs l.touch.merged.codes l.tests;
       shut : Shut t.catalogue t.cells.now (number_of l.key) l.live;

@@ -17,13 +17,13 @@ use Rattle.sets.proofs.Dropping.{gone-under, gone-dropped, parts-own}
 use Rattle.sets.proofs.RowSet.kept.Goals.{Start}
 use Rattle.sets.proofs.RowSet.kept.Goals as goal
 
-long : (s : Start) → length (rows_of s.args.self.now) ≡ s.args.self.now.layout.now.tables.now.catalogue.n
+long : (s : Start) → length (rows_of s.args.self.now) ≡ s.args.self.now.layout.now.tables.catalogue.n
 long s = in-length bits_per_row _ (number_of s.args.self.now.key)
 
 pub without-requires-clause-own : goal.without-requires-clause-own
 without-requires-clause-own c =
     let s = c.args.self.now in
-    let t = s.layout.now.tables.now in
+    let t = s.layout.now.tables in
     rw c.with.ensures.tables
     (gone-under t.catalogue t.cells.now _ t.lawful (rows_of s) (long (goal.at.without-requires-clause-own c).Start) (place_of c.args.x) c.requires _ s.members _ c.parted.ensures _)
 
@@ -37,6 +37,6 @@ without-requires-clause-stays c =
 pub returns-clause-rows : goal.returns-clause-rows
 returns-clause-rows c =
     let s = c.args.self.now in
-    let t = s.layout.now.tables.now in
+    let t = s.layout.now.tables in
     c.without.ensures.rows ∙ ap (λ (X : List ℕ). lacking X c.parted.result) c.with.ensures.rows
     ∙ sym (gone-dropped t.catalogue t.cells.now _ t.lawful (rows_of s) (long (goal.at.returns-clause-rows c).Start) (place_of c.args.x) c.requires _ s.members _ c.parted.ensures)

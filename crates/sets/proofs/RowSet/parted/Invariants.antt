@@ -8,5 +8,5 @@ use Rattle.sets.proofs.RowSet.parted.Given as goal
 
 abbrev pub invariant-loop-u : goal.invariant-loop-u
 invariant-loop-u l =
-    let t = l.self.layout.now.tables.now in
+    let t = l.self.layout.now.tables in
     Parting t.catalogue t.cells.now (rows_of l.self) (place_of l.fn.x) (bit_and l.self.tables (mask_in t.catalogue l.fn.x.table)) l.gone l.u-iterator.rest

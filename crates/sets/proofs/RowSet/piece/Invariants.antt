@@ -6,7 +6,7 @@ use Rattle.sets.proofs.Joining.{Joining}
 use Rattle.sets.proofs.RowSet.piece.Given as goal
 
 abbrev pub invariant-loop-left : goal.invariant-loop-left
-invariant-loop-left l = Joining l.self.layout.now.tables.now.catalogue (rows_of l.self) (row_in (rows_of l.self) l.fn.x.table) l.left l.reach
+invariant-loop-left l = Joining l.self.layout.now.tables.catalogue (rows_of l.self) (row_in (rows_of l.self) l.fn.x.table) l.left l.reach
 
 abbrev pub decreases-loop-left : goal.decreases-loop-left
 decreases-loop-left l = l.left

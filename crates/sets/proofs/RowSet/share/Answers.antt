@@ -18,7 +18,7 @@ loop-u-init c =
 pub loop-u-preserved : goal.loop-u-preserved
 loop-u-preserved c =
     let s = c.args.self.now in
-    let t = s.layout.now.tables.now in
+    let t = s.layout.now.tables in
     let b = c.in-Some.ensures.steps.0.itself in
     let v = c.loop-u.invariant in
     let (e, r, h) = c.row.ensures in

@@ -8,7 +8,7 @@ use Rattle.sets.proofs.RowSet.share.Given as goal
 
 abbrev pub invariant-loop-u : goal.invariant-loop-u
 invariant-loop-u l =
-    let t = l.self.layout.now.tables.now in
+    let t = l.self.layout.now.tables in
     record {
       part : Under l.u-iterator.rest l.self.tables;
       merged : Merged t.catalogue t.cells.now (at (lacking (rows_of l.self) l.u-iterator.rest)) l.touch.merged.codes l.touch.merged.attrs;

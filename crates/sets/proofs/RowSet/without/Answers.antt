@@ -18,14 +18,14 @@ use Rattle.sets.proofs.RowSet.without.Goals.{Start, In-None}
 use Rattle.sets.proofs.RowSet.without.Goals as goal
 
 -- the set as it is
-own : (s : Start) → SetFor s.args.self.now.layout.now.tables.now.catalogue (rows_of s.args.self.now) (number_of s.args.self.now.key) s.args.self.now.tables
+own : (s : Start) → SetFor s.args.self.now.layout.now.tables.catalogue (rows_of s.args.self.now) (number_of s.args.self.now.key) s.args.self.now.tables
 own s = record { low = s.args.self.now.named.low; rows = refl; tables = s.args.self.now.members }
 
 -- a table of the mask is there
-turn : (s : Start) (u : ℕ) → bit_of s.args.self.now.tables u ≡ true → u < s.args.self.now.layout.now.tables.now.catalogue.n
+turn : (s : Start) (u : ℕ) → bit_of s.args.self.now.tables u ≡ true → u < s.args.self.now.layout.now.tables.catalogue.n
 turn s u b =
     let set = s.args.self.now in
-    rw (in-length bits_per_row set.layout.now.tables.now.catalogue.n (number_of set.key)) at (tables-lt (rows_of set) _ set.members u b)
+    rw (in-length bits_per_row set.layout.now.tables.catalogue.n (number_of set.key)) at (tables-lt (rows_of set) _ set.members u b)
 
 pub loop-u-init : goal.loop-u-init
 loop-u-init c =
@@ -34,7 +34,7 @@ loop-u-init c =
 
 pub with_row-key-requires : goal.with_row-key-requires
 with_row-key-requires c =
-    (omega (arith, turn (goal.at.with_row-key-requires c).Start _ (c.requires.own _ (c.loop-u.invariant.0 _ c.in-Some.ensures.steps.0.itself)), c.args.self.now.layout.now.tables.now.lawful.tables), pow_pos bits_per_row)
+    (omega (arith, turn (goal.at.with_row-key-requires c).Start _ (c.requires.own _ (c.loop-u.invariant.0 _ c.in-Some.ensures.steps.0.itself)), c.args.self.now.layout.now.tables.lawful.tables), pow_pos bits_per_row)
 
 pub loop-u-preserved : goal.loop-u-preserved
 loop-u-preserved c =
@@ -45,7 +45,7 @@ loop-u-preserved c =
     )
 
 -- what is left
-less : (c : In-None) → SetFor c.args.self.now.layout.now.tables.now.catalogue (lacking (rows_of c.args.self.now) c.args.gone) (number_of c.loop-u.key)
+less : (c : In-None) → SetFor c.args.self.now.layout.now.tables.catalogue (lacking (rows_of c.args.self.now) c.args.gone) (number_of c.loop-u.key)
     (bit_xor c.args.self.now.tables c.args.gone)
 less c =
     leaving-end _ _ _ _ (own (goal.at-In-None c).Start) _ c.requires.own _ _ c.loop-u.invariant.1 c.in-None.ensures.steps.0

@@ -6,4 +6,4 @@ use Rattle.sets.proofs.Leavings.{Leaving}
 use Rattle.sets.proofs.RowSet.without.Given as goal
 
 abbrev pub invariant-loop-u : goal.invariant-loop-u
-invariant-loop-u l = Under l.u-iterator.rest l.gone × Leaving l.self.layout.now.tables.now.catalogue (rows_of l.self) l.gone (number_of l.key) l.u-iterator.rest
+invariant-loop-u l = Under l.u-iterator.rest l.gone × Leaving l.self.layout.now.tables.catalogue (rows_of l.self) l.gone (number_of l.key) l.u-iterator.rest

@@ -5,4 +5,4 @@ use Rattle.sets.proofs.Touch.add.Goals as goal
 pub returns-clause-merged : goal.returns-clause-merged
 returns-clause-merged c =
     let r = c.rows.ensures in
-    rw (r.cells, r.scheme, start_of c.args.layout.now.tables.now.catalogue c.args.row.table c.args.row.row _ r.base) at c.add.ensures
+    rw (r.cells, r.scheme, start_of c.args.layout.now.tables.catalogue c.args.row.table c.args.row.row _ r.base) at c.add.ensures

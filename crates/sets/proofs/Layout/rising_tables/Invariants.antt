@@ -1,6 +1,0 @@
--- `sets::Layout::rising_tables` meets its contract. Invariant: the tables of the mask so far have a first column that does not fall. Assumes nothing.
-use Rattle.sets.specs.Promises.{RisingIn}
-use Rattle.sets.proofs.Layout.rising_tables.Given as goal
-
-abbrev pub invariant-loop-t : goal.invariant-loop-t
-invariant-loop-t l = RisingIn l.self.tables.now.catalogue l.self.tables.now.cells.now l.rising
